@@ -1,0 +1,53 @@
+// Why an operation refuses, one variant for each refusal of document 01 with its number, and the answers that may be refusals.
+ghost use mathlib.Core.Path.{_≡_};
+ghost use Rattle.refusal.specs.Answers.{number};
+
+pub enum Refusal {
+    // 1: k is not 1 to 5.
+    Dimension,
+    // 2: a list has not the length that is asked for.
+    Length,
+    // 3: a symbol above 728, or a value above 26.
+    Range,
+    // 4: no codeword lies within the radius.
+    Undecodable,
+    // 5: a book too long, or too short for its contents.
+    BookSize,
+    // 6: a tune number out of its range, or not above the one before it.
+    TuneNumber,
+    // 7: a tune without cards, or a body that does not start where the one before it ends.
+    Layout,
+    // 8: no tune of that number.
+    NoSuchTune,
+    // 9: no card of that number.
+    NoSuchCard,
+}
+
+// The answer of an operation that has nothing to say but that it is done.
+pub enum Outcome {
+    Done,
+    Refused(Refusal),
+}
+
+// The answer of an operation that gives a number.
+pub enum Answer {
+    Value(u32),
+    Refused(Refusal),
+}
+
+// The number by which document 01 names a refusal.
+pub fn number(r: Refusal) -> u32
+    ensures { λ n. ⌜ n ≡ number r ⌝ }
+{
+    match r {
+        Refusal::Dimension => 1,
+        Refusal::Length => 2,
+        Refusal::Range => 3,
+        Refusal::Undecodable => 4,
+        Refusal::BookSize => 5,
+        Refusal::TuneNumber => 6,
+        Refusal::Layout => 7,
+        Refusal::NoSuchTune => 8,
+        Refusal::NoSuchCard => 9,
+    }
+}
