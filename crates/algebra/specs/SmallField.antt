@@ -14,7 +14,7 @@ use Rattle.algebra.specs.Digits.{add-zero}
 use Rattle.algebra.specs.Sums.{zero-plus, minus-self}
 use Rattle.algebra.specs.Linear.{Linear, composed, summed, scale-linear, none-linear, rest-linear, combination, combination-linear}
 use Rattle.algebra.specs.Linear.{computing, agree, by-test}
-use Rattle.algebra.specs.Products.{right, times-zero, times-whole, risen-linear, risen-times}
+use Rattle.algebra.specs.Products.{ring, right, times-zero, times-whole, risen-linear, risen-times}
 
 -- small IS LINEAR, and reads three digits
 same-small : (c m : ℕ) → c % 3 ≡ m % 3 → c / 3 % 3 ≡ m / 3 % 3 → c / 9 % 3 ≡ m / 9 % 3 → small c ≡ small m
@@ -125,6 +125,14 @@ high-moved = agree (composed small-linear high-linear) (composed (right 446) (su
 
 pub fixed-small : (v : ℕ) → risen 3 v ≡ v → small (low v) ≡ v % 729
 fixed-small v e = only-low v (simp (high-moved, e, minus-self, times-zero))
+
+-- the high part of a product by a small symbol
+pub high-times : (v c : ℕ) → small (high (times v (small c))) ≡ times (small (high v)) (small c)
+high-times v c = high-moved _ ∙ ap (λ (x : ℕ). times 446 (minus x (times v (small c)))) (risen-times 3 v (small c) ∙ ap (times (risen 3 v)) (small-fixed c))
+    ∙ taken-out (risen 3 v) ∙ ap (λ (x : ℕ). times x (small c)) (sym (high-moved v))
+  where
+    taken-out : (r : ℕ) → times 446 (minus (times r (small c)) (times v (small c))) ≡ times (times 446 (minus r v)) (small c)
+    taken-out r = simp ring
 
 -- products of small symbols are small
 pub small-times : (c d : ℕ) → times (small c) (small d) ≡ small (low (times (small c) (small d)))

@@ -1,20 +1,20 @@
 -- Squares: gamma is none and each small symbol is one, so gamma times a square is not small, but 0. Assumes nothing.
--- Main: gamma-no-square, small-square, square-step, gamma-moves.
+-- Main: gamma-no-square, small-square, square-step, gamma-high.
 use mathlib.Core.Path.{_≡_, refl, sym, ap, _∙_}
 use mathlib.Core.Bool.{true, false, true≢false, _||_, not}
 use mathlib.Core.List.{[], _∷_}
 use Prim.Native.Nat.{ℕ, _%_}
-use native.Mathlib.Nat.{mod-lt}
+use native.Mathlib.Nat.{mod-eq-of-lt, mod-lt}
 use native.Mathlib.Omega.{arith}
 use lib.Dec.{eqb, lit<}
 use lib.ListN.{getD}
-use Rattle.algebra.specs.Field.{add, minus, times, risen, small, gamma}
+use Rattle.algebra.specs.Field.{add, minus, times, small, gamma}
 use Rattle.algebra.specs.Tests.{every, tested, tested-if}
-use Rattle.algebra.specs.Sums.{Zero, minus-none}
+use Rattle.algebra.specs.Sums.{Zero}
 use Rattle.algebra.specs.Linear.{computing}
-use Rattle.algebra.specs.Products.{ring, products, right, times-comm, times-one, times-rest, times-whole, risen-linear}
+use Rattle.algebra.specs.Products.{ring, products, times-comm, times-one, times-rest, times-whole}
 use Rattle.algebra.specs.Inverses.{inverse, times-inverse, times-not-zero}
-use Rattle.algebra.specs.SmallField.{small-rest, low, fixed-small}
+use Rattle.algebra.specs.SmallField.{small-linear, small-rest, low, high, only-low}
 
 gamma-test : every 729 (λ x. not (eqb (times x x) gamma) || false) ≡ true
 unfolding computing
@@ -76,10 +76,10 @@ square-step u v n s = record {
     negative : (a : ℕ) → times (add 1 1) (times a v) ≡ minus 0 (times a v)
     negative a = simp ring
 
--- risen 3 moves gamma times a square, as it is not small
-pub gamma-moves : (v : ℕ) → Square v → ¬ Zero (minus (times gamma v) (risen 3 (times gamma v)))
-gamma-moves v s z =
+-- gamma times a square is not small: it has a high part
+pub gamma-high : (v : ℕ) → Square v → ¬ Zero (small (high (times gamma v)))
+gamma-high v s z =
     let w = times gamma v in
-    let fixed : risen 3 w ≡ w = omega (arith, minus-none w (risen 3 w) z, right gamma .below v, risen-linear 2 .below w) in
+    let none : small (high w) ≡ 0 = sym (mod-eq-of-lt (small-linear .below (high w))) ∙ z in
     let r = small-square (low w) in
-    no-ratio (r .0) (s .root) (s .not-zero) (r .1 ∙ fixed-small w fixed ∙ times-whole gamma v ∙ ap (times gamma) (sym (s .same)))
+    no-ratio (r .0) (s .root) (s .not-zero) (r .1 ∙ only-low w none ∙ times-whole gamma v ∙ ap (times gamma) (sym (s .same)))
