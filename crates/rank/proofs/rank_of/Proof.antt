@@ -1,0 +1,16 @@
+-- `rank::rank_of` meets its contract: elimination on the square chooses as many rows as the rank (`chosen-rank`). Assumes nothing.
+use mathlib.Core.Path.{ap, _∙_}
+use lib.ListN.{length}
+use borrow.Author.Needs.{needs}
+use Rattle.rank.specs.Elimination.{trace}
+use Rattle.rank.specs.PivotColumns.{chosen-rank}
+use Rattle.rank.proofs.rank_of.Statement.{statement}
+use Rattle.rank.proofs.rank_of.Tie as tie
+
+returns : tie.Need-returns
+returns c =
+    let s = c .before .before in
+    c .pivots .ensures ∙ ap (λ m. length (trace m)) (c .before .digit-square .ensures) ∙ chosen-rank (s .args .symbols) (s .good .0 .1 .0 .1)
+
+pub rank-of-spec : {M : Type 1} → statement M
+rank-of-spec = tie.close (tie.spec (λ c κs. search needs) (λ c κs. search needs) returns)
