@@ -1,6 +1,7 @@
 -- What answers say in the numbers of document 01. Every promise about an answer goes through these definitions. Assumes nothing.
--- Main: number, outcome, told, answer.
-use mathlib.Core.Bool.{cond}
+-- Main: number, number-not-zero, outcome, told, answer.
+use mathlib.Core.Path.{_≡_, refl}
+use mathlib.Core.Bool.{false, cond}
 use Prim.Native.Nat.{ℕ}
 use lib.Dec.{eqb}
 use Rattle.refusal.specs.declared.Refusal.{Refusal}
@@ -21,6 +22,18 @@ number TuneNumber = 6
 number Layout = 7
 number NoSuchTune = 8
 number NoSuchCard = 9
+
+-- no refusal has the number 0
+pub number-not-zero : (r : Refusal) → eqb (number r) 0 ≡ false
+number-not-zero Dimension = refl
+number-not-zero Length = refl
+number-not-zero Range = refl
+number-not-zero Undecodable = refl
+number-not-zero BookSize = refl
+number-not-zero TuneNumber = refl
+number-not-zero Layout = refl
+number-not-zero NoSuchTune = refl
+number-not-zero NoSuchCard = refl
 
 -- an outcome: 0 when done, or the refusal's number
 abbrev pub outcome : Outcome → ℕ

@@ -1,0 +1,38 @@
+-- What Pull refuses and gives back (document 01: Pull). Assumes nothing: these are definitions.
+-- Main: pull-refusal, pulled.
+use mathlib.Core.Bool.{cond}
+use mathlib.Core.List.{List, []}
+use mathlib.Core.Option.{Option, none, some}
+use Prim.Native.Nat.{ℕ, zero, suc}
+use lib.Dec.{eqb}
+use Rattle.refusal.specs.Answers.{number}
+use Rattle.refusal.specs.declared.Refusal.the-variants.{NoSuchTune}
+use Rattle.book.specs.Layout.{tunes, tune-number, part-of}
+use Rattle.book.specs.Open.{open-refusal}
+
+-- the first entry from e on that bears the tune number, if any
+unfoldable pub entry-from : (left e : ℕ) → (tune : ℕ) → List ℕ → Option ℕ
+entry-from zero e t bs = none
+entry-from (suc k) e t bs = cond (eqb (tune-number bs e) t) (some e) (entry-from k (suc e) t bs)
+
+-- the entry of the contents that bears the tune number, if any
+unfoldable pub entry-of : List ℕ → (tune : ℕ) → Option ℕ
+entry-of bs t = entry-from (tunes bs) 0 t bs
+
+-- 8 if no entry has the number
+abbrev pub missing : Option ℕ → ℕ
+missing none = number NoSuchTune
+missing (some e) = 0
+
+-- the part of the entry, or nothing
+abbrev pub part-at : List ℕ → Option ℕ → List ℕ
+part-at bs none = []
+part-at bs (some e) = part-of bs e
+
+-- as Open; then 8 if no entry has that number
+unfoldable pub pull-refusal : List ℕ → (tune : ℕ) → ℕ
+pull-refusal bs t = cond (eqb (open-refusal bs) 0) (missing (entry-of bs t)) (open-refusal bs)
+
+-- the tune's own part of the book, empty on a refusal
+unfoldable pub pulled : List ℕ → (tune : ℕ) → List ℕ
+pulled bs t = cond (eqb (open-refusal bs) 0) (part-at bs (entry-of bs t)) []

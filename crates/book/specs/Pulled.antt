@@ -1,0 +1,108 @@
+-- Pull leads to each tune of an accepted book, and to nothing else. Assumes nothing.
+-- Main: pulls-each, pulls-only, refused-empty, empty-refused.
+use mathlib.Core.Path.{_≡_, refl, sym, _∙_, ap}
+use mathlib.Core.Bool.{Bool, true, false, cond}
+use mathlib.Core.List.{List, []}
+use mathlib.Core.Option.{Option, none, some}
+use Prim.Native.Nat.{ℕ, zero, suc, _+_, _<_}
+use native.Mathlib.Decide.{ℕ-discrete}
+use native.Mathlib.Omega.{arith}
+use lib.Dec.{eqb}
+use lib.ListN.{length}
+use borrow.Author.Tests.{eqb-true, eq-eqb, ne-eqb}
+use Rattle.refusal.specs.Answers.{number}
+use Rattle.refusal.specs.declared.Refusal.the-variants.{NoSuchTune}
+use Rattle.book.specs.Layout.{tunes, tune-number, part-of}
+use Rattle.book.specs.Open.{open-refusal}
+use Rattle.book.specs.Pull.{entry-from, entry-of, missing, part-at, pull-refusal, pulled}
+use Rattle.book.specs.Loops.{entry-on, entry-start, entry-next}
+use Rattle.book.specs.Accepted.{Accepted, numbers-rise, part-some}
+
+-- AS OPEN, THEN BY THE ENTRY
+pub pull-accepted : (bs : List ℕ) (t : ℕ) → Accepted bs → pull-refusal bs t ≡ missing (entry-of bs t)
+unfolding pull-refusal
+pull-accepted bs t a = rw (eq-eqb (open-refusal bs) 0 a)
+
+pub pull-refused : (bs : List ℕ) (t : ℕ) → (Accepted bs → ⊥) → pull-refusal bs t ≡ open-refusal bs
+unfolding pull-refusal
+pull-refused bs t n = rw (ne-eqb (open-refusal bs) 0 n)
+
+pub pulled-accepted : (bs : List ℕ) (t : ℕ) → Accepted bs → pulled bs t ≡ part-at bs (entry-of bs t)
+unfolding pulled
+pulled-accepted bs t a = rw (eq-eqb (open-refusal bs) 0 a)
+
+pub pulled-refused : (bs : List ℕ) (t : ℕ) → (Accepted bs → ⊥) → pulled bs t ≡ []
+unfolding pulled
+pulled-refused bs t n = rw (ne-eqb (open-refusal bs) 0 n)
+
+-- THE ENTRY. One that is found bears the number
+found-from : (left i t e : ℕ) (bs : List ℕ) → entry-from left i t bs ≡ some e → (e < i + left) × (tune-number bs e ≡ t)
+unfolding entry-from
+found-from zero i t e bs p = let z : _≡_ {A = ℕ} 0 1 = cc in absurd (omega arith)
+found-from (suc left) i t e bs p = go (eqb (tune-number bs i) t) refl p (found-from left (suc i) t e bs)
+  where
+    go : (b : Bool) → eqb (tune-number bs i) t ≡ b → cond b (some i) (entry-from left (suc i) t bs) ≡ some e
+        → (entry-from left (suc i) t bs ≡ some e → (e < suc i + left) × (tune-number bs e ≡ t)) → (e < i + suc left) × (tune-number bs e ≡ t)
+    go true q p f = let z : i ≡ e = cc in (omega arith, rw (← z) (eqb-true (tune-number bs i) t q))
+    go false q p f = (omega (arith, f p .0), f p .1)
+
+pub entry-found : (bs : List ℕ) (t e : ℕ) → entry-of bs t ≡ some e → (e < tunes bs) × (tune-number bs e ≡ t)
+unfolding entry-of
+entry-found bs t e p = let f = found-from (tunes bs) 0 t e bs p in (omega (arith, f .0), f .1)
+
+-- one that bears the number is found: no other has it
+reached : (bs : List ℕ) → Accepted bs → (d i e : ℕ) → i + d ≡ e → e < tunes bs → entry-on bs i (tune-number bs e) ≡ some e
+reached bs a zero i e p h =
+    let q : i ≡ e = omega arith in
+    rw (q, entry-next bs e (tune-number bs e) h, eq-eqb (tune-number bs e) (tune-number bs e) refl)
+reached bs a (suc d) i e p h =
+    rw (entry-next bs i (tune-number bs e) (omega arith), ne-eqb (tune-number bs i) (tune-number bs e) (λ q. omega (arith, numbers-rise bs a i e (omega arith) h)))
+    (reached bs a d (i + 1) e (omega arith) h)
+
+pub entry-there : (bs : List ℕ) → Accepted bs → (e : ℕ) → e < tunes bs → entry-of bs (tune-number bs e) ≡ some e
+entry-there bs a e h = entry-start bs (tune-number bs e) ∙ reached bs a e 0 e (omega arith) h
+
+-- EACH TUNE, AND NOTHING ELSE
+pub pulls-each : (bs : List ℕ) → Accepted bs → (e : ℕ) → e < tunes bs
+    → (pull-refusal bs (tune-number bs e) ≡ 0) × (pulled bs (tune-number bs e) ≡ part-of bs e)
+pulls-each bs a e h =
+    let t = tune-number bs e in
+    (pull-accepted bs t a ∙ ap missing (entry-there bs a e h), pulled-accepted bs t a ∙ ap (part-at bs) (entry-there bs a e h))
+
+-- the tune is there: an entry of an accepted book bears the number, and its part is what Pull gives back
+pub record There (bs : List ℕ) (t : ℕ) : Type 0 where
+  pub accepted : Accepted bs
+  pub entry : ℕ
+  pub within : entry < tunes bs
+  pub bears : tune-number bs entry ≡ t
+  pub part : pulled bs t ≡ part-of bs entry
+
+-- either the tune is there, or Pull refuses and gives back nothing
+data Pulls (bs : List ℕ) (t : ℕ) : Type 0 where
+  there : pull-refusal bs t ≡ 0 → There bs t → Pulls bs t
+  refused : (pull-refusal bs t ≡ 0 → ⊥) → pulled bs t ≡ [] → Pulls bs t
+
+pulls : (bs : List ℕ) (t : ℕ) → Pulls bs t
+pulls bs t =
+    elim (ℕ-discrete (open-refusal bs) 0)
+    [ yes a ↦ go a (entry-of bs t) refl | no n ↦ refused (λ r. n (sym (pull-refused bs t n) ∙ r)) (pulled-refused bs t n) ]
+  where
+    go : Accepted bs → (o : Option ℕ) → entry-of bs t ≡ o → Pulls bs t
+    go a none q =
+        refused (λ r. let z : number NoSuchTune ≡ 0 = sym (pull-accepted bs t a ∙ ap missing q) ∙ r in omega arith) (pulled-accepted bs t a ∙ ap (part-at bs) q)
+    go a (some e) q =
+        let f = entry-found bs t e q in
+        there (pull-accepted bs t a ∙ ap missing q)
+        (record { accepted = a; entry = e; within = f .0; bears = f .1; part = pulled-accepted bs t a ∙ ap (part-at bs) q })
+
+pub pulls-only : (bs : List ℕ) (t : ℕ) → pull-refusal bs t ≡ 0 → There bs t
+pulls-only bs t r = elim (pulls bs t) [ there p h ↦ h | refused n e ↦ absurd (n r) ]
+
+-- the part is empty exactly on a refusal
+pub refused-empty : (bs : List ℕ) (t : ℕ) → (pull-refusal bs t ≡ 0 → ⊥) → pulled bs t ≡ []
+refused-empty bs t n = elim (pulls bs t) [ there p h ↦ absurd (n p) | refused m e ↦ e ]
+
+pub empty-refused : (bs : List ℕ) (t : ℕ) → pulled bs t ≡ [] → pull-refusal bs t ≡ 0 → ⊥
+empty-refused bs t e r =
+    let h = pulls-only bs t r in
+    omega (arith, ap length (sym (h .part) ∙ e), part-some bs (h .accepted) (h .entry) (h .within))

@@ -1,0 +1,25 @@
+-- `field::low` meets its contract: the formula passed a test of all symbols. Assumes nothing.
+use borrow.Author.Needs.{needs}
+use Rattle.field.specs.Small.{low-is}
+use Rattle.field.proofs.small.low.Statement.{statement}
+use Rattle.field.proofs.small.low.Tie as tie
+
+returns : tie.Need-returns
+returns c = low-is (c .args .v)
+
+pub low-spec : {M : Type 1} → statement M
+low-spec =
+    tie.close
+    (tie.spec
+    (λ c. search needs)
+    (λ c. search needs)
+    (λ c. search needs)
+    (λ c. search needs)
+    (λ c. search needs)
+    (λ c. search needs)
+    (λ c. search needs)
+    (λ c. search needs)
+    (λ c. search needs)
+    (λ c. search needs)
+    (λ c. search needs)
+    returns)

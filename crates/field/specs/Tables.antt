@@ -1,0 +1,65 @@
+-- The tables that products and inverses read, and what they read there. Assumes nothing.
+-- Main: Tables, log-small, logs-small, product-near, product-round, inverse-one, inverse-back.
+use mathlib.Core.Path.{_≡_, sym, ap, _∙_}
+use mathlib.Core.List.{List}
+use Prim.Native.Nat.{ℕ, _+_, _-_, _%_, _≤_, _<_}
+use native.Mathlib.Nat.{mod-lt, mod-mod}
+use native.Mathlib.Omega.{arith}
+use lib.Dec.{lit<}
+use lib.ListN.{getD}
+use Rattle.algebra.specs.Field.{times, power}
+use Rattle.algebra.specs.Lists.{table, at-table}
+use Rattle.algebra.specs.Sums.{Zero}
+use Rattle.algebra.specs.Products.{times-rest, rest-times, zero-times, times-zero}
+use Rattle.algebra.specs.Powers.{powers, place, log, log-below, power-at, power-round, power-728, times-logs}
+use Rattle.algebra.specs.Inverses.{inverse, inverse-power}
+
+-- what is lent are the tables of the logarithms and of the powers
+pub record Tables (l p : List ℕ) : Type 0 where
+  pub logs : l ≡ table 729 log
+  pub powers : p ≡ powers
+
+-- the exponent of a symbol, as it is read
+abbrev exponent : (l : List ℕ) (a : ℕ) → ℕ
+exponent l a = getD l (a % 729) 0
+
+-- a factor 0
+pub zero-left : (a b : ℕ) → Zero a → 0 ≡ times a b
+zero-left a b z = sym (sym (rest-times a b) ∙ ap (λ (x : ℕ). times x b) z ∙ zero-times b)
+
+pub zero-right : (a b : ℕ) → Zero b → 0 ≡ times a b
+zero-right a b z = sym (sym (times-rest a b) ∙ ap (times a) z ∙ times-zero a)
+
+module _ {l p : List ℕ} (t : Tables l p) where
+  log-read : (a : ℕ) → exponent l a ≡ log a
+  unfolding log
+  log-read a = rw (t .logs) (at-table 729 log (a % 729) (mod-lt a (lit< tt)) ∙ ap (λ (v : ℕ). place v 0 powers) (mod-mod a 729))
+
+  pub log-small : (a : ℕ) → exponent l a < 728
+  log-small a = rw (log-read a) (log-below a)
+
+  pub logs-small : (a b : ℕ) → (exponent l a < 728) × (exponent l b < 728)
+  logs-small a b = (log-small a, log-small b)
+
+  power-read : (k : ℕ) → k < 728 → getD p k 0 ≡ power 3 k
+  power-read k h = rw (t .powers) (power-at k h)
+
+  -- PRODUCTS: the exponents are added, and come round after 728
+  module _ (a b : ℕ) (n : ¬ Zero a) (m : ¬ Zero b) where
+    by-logs : power 3 (exponent l a + exponent l b) ≡ times a b
+    by-logs = rw (log-read a, log-read b) (sym (times-logs a b n m))
+
+    pub product-near : exponent l a + exponent l b < 728 → getD p (exponent l a + exponent l b) 0 ≡ times a b
+    product-near h = power-read _ h ∙ by-logs
+
+    pub product-round : 728 ≤ exponent l a + exponent l b → getD p (exponent l a + exponent l b - 728) 0 ≡ times a b
+    product-round h =
+        power-read _ (omega (arith, log-small a, log-small b)) ∙ sym (power-round _) ∙ ap (power 3) (omega arith) ∙ by-logs
+
+  -- INVERSES: the exponent is taken from 728
+  module _ (a : ℕ) (n : ¬ Zero a) where
+    pub inverse-one : exponent l a ≡ 0 → 1 ≡ inverse a
+    inverse-one e = sym (inverse-power a n ∙ rw (← log-read a, e) power-728)
+
+    pub inverse-back : ¬ (exponent l a ≡ 0) → getD p (728 - exponent l a) 0 ≡ inverse a
+    inverse-back e = power-read _ (omega (arith, log-small a)) ∙ rw (log-read a) (sym (inverse-power a n))

@@ -1,0 +1,67 @@
+// Products and inverses by logarithms. Each use of a constant table copies it, so code that multiplies often takes the tables once, from
+// `logs` and `powers`, and lends them to the functions that end in _with. These assume that what is lent are the tables, and nothing else.
+ghost use mathlib.Core.Path.{_≡_};
+ghost use Rattle.algebra.specs.Field.{times};
+ghost use Rattle.algebra.specs.Lists.{table};
+ghost use Rattle.algebra.specs.Powers.{powers, log};
+ghost use Rattle.algebra.specs.Inverses.{inverse};
+ghost use Rattle.field.specs.Tables.{Tables};
+use super::tables::LOGS;
+use super::tables::POWERS;
+
+pub fn powers() -> [u16; 728]
+    ensures { λ r. ⌜ r ≡ powers ⌝ }
+{
+    POWERS
+}
+
+pub fn logs() -> [u16; 729]
+    ensures { λ r. ⌜ r ≡ table 729 log ⌝ }
+{
+    LOGS
+}
+
+pub fn product_with(a: u16, b: u16, logs: &[u16; 729], powers: &[u16; 728]) -> u16
+    requires { ⌜ Tables (now logs) (now powers) ⌝ }
+    ensures { λ r. ⌜ r ≡ times a b ⌝ }
+{
+    let x = (a % 729) as usize;
+    let y = (b % 729) as usize;
+    if x == 0 {
+        return 0;
+    }
+    if y == 0 {
+        return 0;
+    }
+    let k = (logs[x] as usize) + (logs[y] as usize);
+    if k < 728 { powers[k] } else { powers[k - 728] }
+}
+
+// The exponent of the inverse of z^k is 728 - k, and that of 1 is 0.
+pub fn inverse_with(a: u16, logs: &[u16; 729], powers: &[u16; 728]) -> u16
+    requires { ⌜ Tables (now logs) (now powers) ⌝ }
+    ensures { λ r. ⌜ r ≡ inverse a ⌝ }
+{
+    let x = (a % 729) as usize;
+    if x == 0 {
+        return 0;
+    }
+    let k = logs[x] as usize;
+    if k == 0 { 1 } else { powers[728 - k] }
+}
+
+pub fn product(a: u16, b: u16) -> u16
+    ensures { λ r. ⌜ r ≡ times a b ⌝ }
+{
+    let l = logs();
+    let p = powers();
+    product_with(a, b, &l, &p)
+}
+
+pub fn inverse(a: u16) -> u16
+    ensures { λ r. ⌜ r ≡ inverse a ⌝ }
+{
+    let l = logs();
+    let p = powers();
+    inverse_with(a, &l, &p)
+}
