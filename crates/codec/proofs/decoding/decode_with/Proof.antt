@@ -1,0 +1,27 @@
+-- `codec::decoding::decode_with` meets its contract: the search from the start is decode. Assumes nothing.
+use mathlib.Core.Path.{_∙_}
+use native.Mathlib.Omega.{arith}
+use borrow.Author.Needs.{needs}
+use Rattle.codec.specs.Steps.{search-is}
+use Rattle.codec.proofs.decoding.decode_with.Statement.{statement}
+use Rattle.codec.proofs.decoding.decode_with.Tie as tie
+
+returns : tie.Need-returns
+returns c =
+    let s = c .before .before .before in (
+      rw (c .before .begun .ensures, c .before .before .columns-for .ensures) at (c .search .ensures .0)
+          ∙ search-is (s .args .k) (omega arith) (omega arith) (s .args .card) (s .pre .2),
+      c .search .ensures .1,
+    )
+
+pub decode-with-spec : {M : Type 1} → statement M
+decode-with-spec =
+    tie.close
+    (tie.spec
+    (λ c. search needs)
+    (λ c. search needs)
+    (λ c. search needs)
+    (λ c κs. search needs)
+    (λ c κs. search needs)
+    (λ c κs. search needs)
+    returns)

@@ -1,0 +1,51 @@
+-- `codec::lists::loaded` meets its contract. The loop: the array begins with what was taken. Assumes nothing.
+use mathlib.Core.Path.{_≡_, refl, sym}
+use Prim.Native.Nat.{_≤_, _-_}
+use native.Mathlib.Omega.{arith}
+use lib.ListN.{length, take, length-set}
+use denote.Ref.{now}
+use borrow.Author.Needs.{needs}
+use Rattle.codec.specs.Filling.{filled-next, filled-all}
+use Rattle.codec.proofs.lists.loaded.Statement.{statement}
+use Rattle.codec.proofs.lists.loaded.Tie as tie
+
+abbrev Inv-loop : tie.InvT-loop
+Inv-loop list m₀ i₀ m i = (i ≤ length list) × (length m ≡ 10) × (take i m ≡ take i list)
+
+abbrev μ-loop : tie.MeasureT-loop
+μ-loop list m₀ i₀ m i = length list - i
+
+loop-holds : tie.Need-loop-holds Inv-loop μ-loop
+loop-holds c = (search needs, refl, refl)
+
+array-write : tie.Need-array-write-m Inv-loop μ-loop
+array-write c = omega arith
+
+loop-again : tie.Need-loop-again Inv-loop μ-loop
+loop-again c =
+    let s = c .before .before in (
+      omega arith,
+      simp length-set (s .loop .inv .1),
+      filled-next (s .loop .m) (now (s .before .args .list)) (s .loop .i) (omega arith) (omega arith) (s .loop .inv .2),
+    )
+
+returns : tie.Need-returns Inv-loop μ-loop
+returns c =
+    let s = c .before in
+    filled-all (s .loop .m) (now (s .before .args .list)) (s .loop .i) (omega arith) (omega arith) (s .loop .inv .2)
+
+pub loaded-spec : {M : Type 1} → statement M
+loaded-spec =
+    tie.close
+    (tie.spec
+    Inv-loop
+    μ-loop
+    loop-holds
+    (λ c. search needs)
+    (λ c. search needs)
+    (λ c. search needs)
+    array-write
+    (λ c. search needs)
+    (λ c. search needs)
+    loop-again
+    returns)

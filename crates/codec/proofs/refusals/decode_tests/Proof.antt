@@ -1,0 +1,45 @@
+-- `codec::refusals::decode_tests` meets its contract: each test on the way decides one test of the definition. Assumes nothing.
+use mathlib.Core.Path.{sym, _∙_}
+use borrow.Author.Needs.{needs}
+use borrow.Author.Tests.{eq-eqb, ne-eqb}
+use Rattle.codec.specs.Answers.{tests, decode-tests}
+use Rattle.codec.proofs.refusals.decode_tests.Statement.{statement}
+use Rattle.codec.proofs.refusals.decode_tests.Tie as tie
+
+returns : tie.Need-returns
+unfolding tests decode-tests
+returns c = rw (sym (c .before .bad-dimension .ensures) ∙ c .if1 .taken)
+
+returns-2 : tie.Need-returns-2
+unfolding tests decode-tests
+returns-2 c = rw (sym (c .before .before .bad-dimension .ensures) ∙ c .before .if1 .left, ne-eqb _ _ (c .if2 .taken))
+
+returns-3 : tie.Need-returns-3
+unfolding tests decode-tests
+returns-3 c = rw (sym (c .before .before .before .bad-dimension .ensures) ∙ c .before .before .if1 .left, eq-eqb _ _ (c .before .if2 .left), ne-eqb _ _ (c .if3 .taken))
+
+returns-4 : tie.Need-returns-4
+unfolding tests decode-tests
+returns-4 c = rw (sym (c .before .before .before .before .bad-dimension .ensures) ∙ c .before .before .before .if1 .left, eq-eqb _ _ (c .before .before .if2 .left), eq-eqb _ _ (c .before .if3 .left), ne-eqb _ _ (c .if4 .taken))
+
+returns-5 : tie.Need-returns-5
+unfolding tests decode-tests
+returns-5 c = rw (sym (c .before .before .before .before .before .before .bad-dimension .ensures) ∙ c .before .before .before .before .before .if1 .left, eq-eqb _ _ (c .before .before .before .before .if2 .left), eq-eqb _ _ (c .before .before .before .if3 .left), eq-eqb _ _ (c .before .before .if4 .left), sym (c .before .any-above .ensures) ∙ c .if5 .taken)
+
+returns-6 : tie.Need-returns-6
+unfolding tests decode-tests
+returns-6 c = rw (sym (c .before .before .before .before .before .before .bad-dimension .ensures) ∙ c .before .before .before .before .before .if1 .left, eq-eqb _ _ (c .before .before .before .before .if2 .left), eq-eqb _ _ (c .before .before .before .if3 .left), eq-eqb _ _ (c .before .before .if4 .left), sym (c .before .any-above .ensures) ∙ c .if5 .left)
+
+pub decode-tests-spec : {M : Type 1} → statement M
+decode-tests-spec =
+    tie.close
+    (tie.spec
+    (λ c κs. search needs)
+    returns
+    returns-2
+    returns-3
+    (λ c. search needs)
+    returns-4
+    (λ c κs. search needs)
+    returns-5
+    returns-6)

@@ -1,0 +1,46 @@
+-- `codec::refusals::syndrome_tests` meets its contract: each test on the way decides one test of the definition. Assumes nothing.
+use mathlib.Core.Path.{sym, _∙_}
+use native.Mathlib.Omega.{arith}
+use borrow.Author.Needs.{needs}
+use borrow.Author.Tests.{eq-eqb, ne-eqb}
+use Rattle.codec.specs.Answers.{tests, syndrome-refusal}
+use Rattle.codec.specs.Refusals.{k-good}
+use Rattle.codec.proofs.refusals.syndrome_tests.Statement.{statement}
+use Rattle.codec.proofs.refusals.syndrome_tests.Tie as tie
+
+sub-if3 : tie.Need-sub-if3
+sub-if3 c = omega (arith, k-good _ (sym (c .before .before .bad-dimension .ensures) ∙ c .before .if1 .left))
+
+returns : tie.Need-returns
+unfolding tests syndrome-refusal
+returns c = rw (sym (c .before .bad-dimension .ensures) ∙ c .if1 .taken)
+
+returns-2 : tie.Need-returns-2
+unfolding tests syndrome-refusal
+returns-2 c = rw (sym (c .before .before .bad-dimension .ensures) ∙ c .before .if1 .left, ne-eqb _ _ (c .if2 .taken))
+
+returns-3 : tie.Need-returns-3
+unfolding tests syndrome-refusal
+returns-3 c = rw (sym (c .before .before .before .bad-dimension .ensures) ∙ c .before .before .if1 .left, eq-eqb _ _ (c .before .if2 .left), ne-eqb _ _ (c .if3 .taken))
+
+returns-4 : tie.Need-returns-4
+unfolding tests syndrome-refusal
+returns-4 c = rw (sym (c .before .before .before .before .before .bad-dimension .ensures) ∙ c .before .before .before .before .if1 .left, eq-eqb _ _ (c .before .before .before .if2 .left), eq-eqb _ _ (c .before .before .if3 .left), sym (c .before .any-above .ensures) ∙ c .if4 .taken)
+
+returns-5 : tie.Need-returns-5
+unfolding tests syndrome-refusal
+returns-5 c = rw (sym (c .before .before .before .before .before .bad-dimension .ensures) ∙ c .before .before .before .before .if1 .left, eq-eqb _ _ (c .before .before .before .if2 .left), eq-eqb _ _ (c .before .before .if3 .left), sym (c .before .any-above .ensures) ∙ c .if4 .left)
+
+pub syndrome-tests-spec : {M : Type 1} → statement M
+syndrome-tests-spec =
+    tie.close
+    (tie.spec
+    (λ c κs. search needs)
+    returns
+    returns-2
+    (λ c. search needs)
+    sub-if3
+    returns-3
+    (λ c κs. search needs)
+    returns-4
+    returns-5)

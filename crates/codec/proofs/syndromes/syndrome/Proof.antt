@@ -1,0 +1,62 @@
+-- `codec::syndromes::syndrome` meets its contract: the tests decide, and then the list is filled with the test values. Assumes nothing.
+use mathlib.Core.Path.{_∙_}
+use Prim.Native.Nat.{_*_, _-_}
+use native.Mathlib.Omega.{arith}
+use lib.ListN.{length}
+use denote.Ref.{now}
+use borrow.Author.Needs.{needs}
+use Rattle.codec.specs.Refusals.{no-refusal, syndrome-passed, tested-refused, tested-done}
+use Rattle.codec.specs.Filling.{filled-rest}
+use Rattle.codec.proofs.syndromes.syndrome.Statement.{statement}
+use Rattle.codec.proofs.syndromes.syndrome.Tie as tie
+
+returns : tie.Need-returns
+returns c =
+    let t = c .before .before .before in
+    let s = t .before .before .before in
+    tested-refused (s .args .k) (now (s .args .card)) (now (s .args .values)) _ (t .syndrome-tests .ensures) _ (c .before .tested .given .1)
+
+values-list-requires : tie.Need-values-list-requires
+values-list-requires c κs = let (p, q, l, v) = syndrome-passed _ _ _ (no-refusal _ _ (c .before .before .syndrome-tests .ensures) (c .enum-told .given .1)) in (p, q, l)
+
+sub-from : tie.Need-sub-from
+sub-from c = let e = c .before in omega (arith, syndrome-passed _ _ _ (no-refusal _ _ (e .before .before .syndrome-tests .ensures) (e .enum-told .given .1)))
+
+sub-fill : tie.Need-sub-fill
+sub-fill c = let e = c .before .before in omega (arith, syndrome-passed _ _ _ (no-refusal _ _ (e .before .before .syndrome-tests .ensures) (e .enum-told .given .1)))
+
+part-fill-start : tie.Need-part-fill-start
+part-fill-start c = let e = c .before .before .before in omega (arith, syndrome-passed _ _ _ (no-refusal _ _ (e .before .before .syndrome-tests .ensures) (e .enum-told .given .1)))
+
+fill-requires : tie.Need-fill-requires
+fill-requires c κs = let e = c .before .before .before .before in omega (arith, syndrome-passed _ _ _ (no-refusal _ _ (e .before .before .syndrome-tests .ensures) (e .enum-told .given .1)))
+
+returns-2 : tie.Need-returns-2
+returns-2 c =
+    let e = c .before .before .before .before .before .before .before in
+    let t = e .before .before in
+    let s = t .before .before .before in
+    let v = c .before .before .before .before .before .before in
+    let (p, q, l, n) = syndrome-passed _ _ _ (no-refusal _ _ (e .before .before .syndrome-tests .ensures) (e .enum-told .given .1)) in
+    tested-done (s .args .k) (now (s .args .card)) (now (s .args .values)) _ (t .syndrome-tests .ensures) (e .enum-told .given .1) _
+    (filled-rest _ (v .values-list .result) _ (2 * s .args .k - 2) (10 - (2 * s .args .k - 2)) (length (now (s .args .values)))
+    (c .before .before .fill .ensures) (v .values-list .ensures) (omega arith) (omega (arith, p, q, n)))
+
+pub syndrome-spec : {M : Type 1} → statement M
+syndrome-spec =
+    tie.close
+    (tie.spec
+    (λ c κs. search needs)
+    (λ c. search needs)
+    returns
+    (λ c. search needs)
+    values-list-requires
+    (λ c. search needs)
+    sub-from
+    (λ c. search needs)
+    sub-fill
+    part-fill-start
+    (λ c. search needs)
+    fill-requires
+    (λ c. search needs)
+    returns-2)

@@ -1,0 +1,15 @@
+// The code (document 01: Press, Test, Mend): encoding a message, the test values of a card, and decoding a card to the message near it.
+mod decoding;
+mod encoding;
+mod interpolation;
+mod lists;
+mod refusals;
+mod spectrum;
+mod syndromes;
+mod vectors;
+
+pub use decoding::Found;
+pub use decoding::decode;
+pub use decoding::decode_with;
+pub use encoding::encode;
+pub use syndromes::syndrome;

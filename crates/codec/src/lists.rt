@@ -1,0 +1,30 @@
+// Lists lent by a caller: taken into an array, and filled from one.
+ghost use mathlib.Core.Path.{_≡_};
+ghost use Prim.Native.Nat.{_≤_};
+ghost use lib.ListN.{length, take};
+
+// The list's numbers, and zeros.
+pub(crate) fn loaded(list: &[u16]) -> [u16; 10]
+    requires { ⌜ length (now list) ≤ 10 ⌝ }
+    ensures { λ r. ⌜ take (length (now (list .entry))) r ≡ now (list .entry) ⌝ }
+{
+    let mut m = [0u16; 10];
+    let mut i = 0;
+    while i < list.len() {
+        m[i] = list[i];
+        i += 1;
+    }
+    m
+}
+
+// The list gets the first entries of another.
+pub(crate) fn fill(list: &mut [u16], from: &[u16])
+    requires { ⌜ length (now list) ≤ length (now from) ⌝ }
+    ensures { λ _. ⌜ now (list .exit) ≡ take (length (now (list .entry))) (now (from .entry)) ⌝ }
+{
+    let mut i = 0;
+    while i < list.len() {
+        list[i] = from[i];
+        i += 1;
+    }
+}

@@ -1,0 +1,26 @@
+-- The code and its decoding: what is promised, and the theory that proves it. In reading order.
+-- Definitions and promises (document 03)
+pub mod Code
+pub mod Promise
+-- Polynomials of messages, cards as linear functions, and their spectrum
+pub mod Coefficients
+pub mod Cards
+pub mod Spectrum
+pub mod WordSpectrum
+pub mod Linearity
+-- Decoding as a definition
+pub mod Options
+pub mod Decode
+-- Decoding as a search
+pub mod Interpolation
+pub mod Finish
+pub mod Search
+pub mod Decoding
+-- The test values
+pub mod Mu
+pub mod Traces
+pub mod TestValues
+-- The promises kept
+pub mod Proved
+-- Cards of low rank
+pub mod LowRank
