@@ -38,7 +38,7 @@ tested bs a = go (size-bad bs) refl (numbers-bad bs) refl (bodies-bad bs) refl a
     go false p false q true r e = absurd (omega arith)
     go false p false q false r e = record { size = p; numbers = q; bodies = r }
 
-neither : (a b : Bool) → (a || b) ≡ false → (a ≡ false) × (b ≡ false)
+pub neither : (a b : Bool) → (a || b) ≡ false → (a ≡ false) × (b ≡ false)
 neither true b e = absurd (true≢false e)
 neither false b e = (refl, e)
 

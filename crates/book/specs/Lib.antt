@@ -3,9 +3,15 @@
 pub mod Layout
 pub mod Open
 pub mod Pull
--- Laws of the loops over the contents, and of answers
+pub mod Reading
+pub mod Bodies
+pub mod Entries
+-- Laws of the loops over the contents
 pub mod Loops
-pub mod Answers
 -- What an accepted book is
 pub mod Accepted
 pub mod Pulled
+-- What is read of a body
+pub mod Cards
+pub mod CardLoops
+pub mod Strikes

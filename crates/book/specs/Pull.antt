@@ -1,5 +1,5 @@
 -- What Pull refuses and gives back (document 01: Pull). Assumes nothing: these are definitions.
--- Main: pull-refusal, pulled.
+-- Main: pull-refusal, pulled, pulled-from.
 use mathlib.Core.Bool.{cond}
 use mathlib.Core.List.{List, []}
 use mathlib.Core.Option.{Option, none, some}
@@ -7,7 +7,7 @@ use Prim.Native.Nat.{ℕ, zero, suc}
 use lib.Dec.{eqb}
 use Rattle.refusal.specs.Answers.{number}
 use Rattle.refusal.specs.declared.Refusal.the-variants.{NoSuchTune}
-use Rattle.book.specs.Layout.{tunes, tune-number, part-of}
+use Rattle.book.specs.Layout.{tunes, tune-number, offset, part-of}
 use Rattle.book.specs.Open.{open-refusal}
 
 -- the first entry from e on that bears the tune number, if any
@@ -36,3 +36,11 @@ pull-refusal bs t = cond (eqb (open-refusal bs) 0) (missing (entry-of bs t)) (op
 -- the tune's own part of the book, empty on a refusal
 unfoldable pub pulled : List ℕ → (tune : ℕ) → List ℕ
 pulled bs t = cond (eqb (open-refusal bs) 0) (part-at bs (entry-of bs t)) []
+
+-- where that part begins, 0 on a refusal
+abbrev pub offset-at : List ℕ → Option ℕ → ℕ
+offset-at bs none = 0
+offset-at bs (some e) = offset bs e
+
+unfoldable pub pulled-from : List ℕ → (tune : ℕ) → ℕ
+pulled-from bs t = cond (eqb (open-refusal bs) 0) (offset-at bs (entry-of bs t)) 0

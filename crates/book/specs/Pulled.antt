@@ -1,5 +1,5 @@
 -- Pull leads to each tune of an accepted book, and to nothing else. Assumes nothing.
--- Main: pulls-each, pulls-only, refused-empty, empty-refused.
+-- Main: pulls-each, pulls-only, refused-empty, empty-refused, pulled-good.
 use mathlib.Core.Path.{_≡_, refl, sym, _∙_, ap}
 use mathlib.Core.Bool.{Bool, true, false, cond}
 use mathlib.Core.List.{List, []}
@@ -12,11 +12,11 @@ use lib.ListN.{length}
 use borrow.Author.Tests.{eqb-true, eq-eqb, ne-eqb}
 use Rattle.refusal.specs.Answers.{number}
 use Rattle.refusal.specs.declared.Refusal.the-variants.{NoSuchTune}
-use Rattle.book.specs.Layout.{tunes, tune-number, part-of}
+use Rattle.book.specs.Layout.{tunes, tune-number, part-of, body-good}
 use Rattle.book.specs.Open.{open-refusal}
-use Rattle.book.specs.Pull.{entry-from, entry-of, missing, part-at, pull-refusal, pulled}
+use Rattle.book.specs.Pull.{entry-from, entry-of, missing, part-at, pull-refusal, pulled, offset-at, pulled-from}
 use Rattle.book.specs.Loops.{entry-on, entry-start, entry-next}
-use Rattle.book.specs.Accepted.{Accepted, numbers-rise, part-some}
+use Rattle.book.specs.Accepted.{Accepted, numbers-rise, part-some, part-good}
 
 -- AS OPEN, THEN BY THE ENTRY
 pub pull-accepted : (bs : List ℕ) (t : ℕ) → Accepted bs → pull-refusal bs t ≡ missing (entry-of bs t)
@@ -30,6 +30,14 @@ pull-refused bs t n = rw (ne-eqb (open-refusal bs) 0 n)
 pub pulled-accepted : (bs : List ℕ) (t : ℕ) → Accepted bs → pulled bs t ≡ part-at bs (entry-of bs t)
 unfolding pulled
 pulled-accepted bs t a = rw (eq-eqb (open-refusal bs) 0 a)
+
+pub pulled-from-accepted : (bs : List ℕ) (t : ℕ) → Accepted bs → pulled-from bs t ≡ offset-at bs (entry-of bs t)
+unfolding pulled-from
+pulled-from-accepted bs t a = rw (eq-eqb (open-refusal bs) 0 a)
+
+pub pulled-from-refused : (bs : List ℕ) (t : ℕ) → (Accepted bs → ⊥) → pulled-from bs t ≡ 0
+unfolding pulled-from
+pulled-from-refused bs t n = rw (ne-eqb (open-refusal bs) 0 n)
 
 pub pulled-refused : (bs : List ℕ) (t : ℕ) → (Accepted bs → ⊥) → pulled bs t ≡ []
 unfolding pulled
@@ -106,3 +114,9 @@ pub empty-refused : (bs : List ℕ) (t : ℕ) → pulled bs t ≡ [] → pull-re
 empty-refused bs t e r =
     let h = pulls-only bs t r in
     omega (arith, ap length (sym (h .part) ∙ e), part-some bs (h .accepted) (h .entry) (h .within))
+
+-- what Pull gives back is a body that Read takes
+pub pulled-good : (bs : List ℕ) (t : ℕ) → body-good (pulled bs t) ≡ true
+unfolding body-good
+pulled-good bs t =
+    elim (pulls bs t) [ there p h ↦ rw (h .part) (part-good bs (h .accepted) (h .entry) (h .within)) | refused n e ↦ rw e ]

@@ -1,9 +1,25 @@
-// Tune books: a contents of tunes, then their bodies of cards (document 01: Tune book). Opening a book, and finding a tune in it.
+// Tune books: a contents of tunes, then their bodies of cards (document 01: Tune book). Opening a book, finding a tune in it, reading its
+// cards, and what is said of all cards of a tune.
 // Assumes nothing.
+mod bodies;
 mod contents;
+mod entries;
 mod fields;
 mod pull;
+mod reading;
 
+pub use bodies::Worn;
+pub use bodies::damaged_card;
+pub use bodies::delay;
+pub use bodies::total_delay;
 pub use contents::open;
+pub use entries::Entry;
+pub use entries::Tune;
+pub use entries::tune_at;
 pub use pull::find_tune;
 pub use pull::tune_body;
+pub use pull::tune_offset;
+pub use reading::Reading;
+pub use reading::Strike;
+pub use reading::read_card;
+pub use reading::read_card_with;

@@ -4,7 +4,7 @@ ghost use mathlib.Core.Path.{_≡_};
 ghost use Prim.Native.Nat.{_+_, _*_, _≤_};
 ghost use lib.ListN.{length};
 ghost use Rattle.book.specs.Layout.{tunes, contents-end, offset, cards, part-of};
-ghost use Rattle.book.specs.Pull.{entry-of, pull-refusal, pulled};
+ghost use Rattle.book.specs.Pull.{entry-of, pull-refusal, pulled, pulled-from};
 ghost use Rattle.book.specs.Loops.{found};
 ghost use Rattle.refusal.specs.Answers.{outcome};
 use crate::contents::open;
@@ -73,6 +73,20 @@ pub fn tune_body(book: &[u8], number: u32) -> &[u8]
         Answer::Value(_) => match find_entry(book, number) {
             Found::Nothing => &book[0..0],
             Found::At(e) => part(book, e),
+        },
+    }
+}
+
+// Where the tune's own part begins in the book, counted from 0; 0 on a refusal. With the part's length this says in numbers what
+// `tune_body` hands out as a slice.
+pub fn tune_offset(book: &[u8], number: u32) -> u32
+    ensures { λ r. ⌜ r ≡ pulled-from (now (book .entry)) number ⌝ }
+{
+    match open(book) {
+        Answer::Refused(_) => 0,
+        Answer::Value(_) => match find_entry(book, number) {
+            Found::Nothing => 0,
+            Found::At(e) => offset_of(book, e),
         },
     }
 }

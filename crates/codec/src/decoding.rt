@@ -78,8 +78,8 @@ fn leaf_of(card: [u16; 6], k: usize, s: State, logs: &[u16; 729], powers: &[u16;
     ensures { λ r. ⌜ (answer k r ≡ leaf k card (state s)) × Whole k card r ⌝ }
 {
     let word = finished(s, logs, powers);
-    let distance = rank::rank_of(difference(word, card));
-    if (6 - k) / 2 < (distance as usize) {
+    let weight = rank::rank_of(difference(word, card));
+    if (6 - k) / 2 < (weight as usize) {
         return nothing();
     }
     near(card, k, message_of(k, word, logs, powers), logs, powers)

@@ -1,9 +1,10 @@
 -- What answers say in the numbers of document 01. Every promise about an answer goes through these definitions. Assumes nothing.
--- Main: number, number-not-zero, outcome, told, answer.
-use mathlib.Core.Path.{_≡_, refl}
-use mathlib.Core.Bool.{false, cond}
+-- Main: number, number-not-zero, outcome, told, answer, told-refused, told-value.
+use mathlib.Core.Path.{_≡_, refl, ap, sym, _∙_}
+use mathlib.Core.Bool.{false, cond, true≢false}
 use Prim.Native.Nat.{ℕ}
 use lib.Dec.{eqb}
+use borrow.Author.Tests.{eq-eqb}
 use Rattle.refusal.specs.declared.Refusal.{Refusal}
 use Rattle.refusal.specs.declared.Refusal.the-variants.{Dimension, Length, Range, Undecodable, BookSize, TuneNumber, Layout, NoSuchTune, NoSuchCard}
 use Rattle.refusal.specs.declared.Outcome.{Outcome}
@@ -52,3 +53,15 @@ told (answers.Refused r) = record { refusal = number r; value = 0 }
 -- what is to be told where the refusal is n, 0 if there is none, and the value would be v
 unfoldable pub answer : (n v : ℕ) → Told
 answer n v = record { refusal = n; value = cond (eqb n 0) v 0 }
+
+-- a refusal tells its number, which is not 0
+pub told-refused : (r : Answer) (why : Refusal) (n v : ℕ) → r ≡ answers.Refused why → told r ≡ answer n v → (number why ≡ n) × (n ≡ 0 → ⊥)
+unfolding answer
+told-refused r why n v p e =
+    let q : number why ≡ n = ap (λ (t : Told). t .refusal) (rw p at e) in
+    (q, λ z. true≢false (sym (eq-eqb (number why) 0 (q ∙ z)) ∙ number-not-zero why))
+
+-- a value tells that there is no refusal
+pub told-value : (r : Answer) (x n v : ℕ) → r ≡ answers.Value x → told r ≡ answer n v → n ≡ 0
+unfolding answer
+told-value r x n v p e = sym (ap (λ (t : Told). t .refusal) (rw p at e))

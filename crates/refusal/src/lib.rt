@@ -1,6 +1,6 @@
 // Why an operation refuses, one variant for each refusal of document 01 with its number, and the answers that may be refusals.
 ghost use mathlib.Core.Path.{_≡_};
-ghost use Rattle.refusal.specs.Answers.{number};
+ghost use Rattle.refusal.specs.Answers.{number, outcome, told};
 
 pub enum Refusal {
     // 1: k is not 1 to 5.
@@ -49,5 +49,35 @@ pub fn number(r: Refusal) -> u32
         Refusal::Layout => 7,
         Refusal::NoSuchTune => 8,
         Refusal::NoSuchCard => 9,
+    }
+}
+
+// An outcome as a number: 0 when done, or the refusal's.
+pub fn outcome_number(o: Outcome) -> u32
+    ensures { λ n. ⌜ n ≡ outcome o ⌝ }
+{
+    match o {
+        Outcome::Done => 0,
+        Outcome::Refused(r) => number(r),
+    }
+}
+
+// An answer's refusal as a number, 0 if there is none.
+pub fn answer_number(a: Answer) -> u32
+    ensures { λ n. ⌜ n ≡ told a .refusal ⌝ }
+{
+    match a {
+        Answer::Value(_) => 0,
+        Answer::Refused(r) => number(r),
+    }
+}
+
+// An answer's value, 0 where it was refused.
+pub fn answer_value(a: Answer) -> u32
+    ensures { λ n. ⌜ n ≡ told a .value ⌝ }
+{
+    match a {
+        Answer::Value(v) => v,
+        Answer::Refused(_) => 0,
     }
 }

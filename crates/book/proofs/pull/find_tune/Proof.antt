@@ -2,12 +2,12 @@
 use mathlib.Core.Path.{_≡_, sym, _∙_, ap}
 use denote.Ref.{now}
 use borrow.Author.Needs.{needs}
+use Rattle.refusal.specs.Answers.{told-refused, told-value}
 use Rattle.book.specs.declared.pull.Found.{Found}
 use Rattle.book.specs.Layout.{tunes}
 use Rattle.book.specs.Open.{open-refusal}
 use Rattle.book.specs.Pull.{missing, pull-refusal}
 use Rattle.book.specs.Loops.{found}
-use Rattle.book.specs.Answers.{told-refused, told-value}
 use Rattle.book.specs.Accepted.{Accepted, contents-within}
 use Rattle.book.specs.Pulled.{pull-accepted, pull-refused}
 use Rattle.book.proofs.pull.find_tune.Statement.{statement}

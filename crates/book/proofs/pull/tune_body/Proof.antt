@@ -4,12 +4,12 @@ use mathlib.Core.Path.{_≡_, sym, _∙_, ap}
 use native.Mathlib.Omega.{arith}
 use denote.Ref.{now}
 use borrow.Author.Needs.{needs}
+use Rattle.refusal.specs.Answers.{told-refused, told-value}
 use Rattle.book.specs.declared.pull.Found.{Found}
 use Rattle.book.specs.Layout.{tunes}
 use Rattle.book.specs.Open.{open-refusal}
 use Rattle.book.specs.Pull.{part-at, pulled}
 use Rattle.book.specs.Loops.{found}
-use Rattle.book.specs.Answers.{told-refused, told-value}
 use Rattle.book.specs.Accepted.{Accepted, contents-within, part-within}
 use Rattle.book.specs.Pulled.{pulled-accepted, pulled-refused, entry-found}
 use Rattle.book.proofs.pull.tune_body.Statement.{statement}

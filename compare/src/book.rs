@@ -1,0 +1,183 @@
+//! Tune books: their contents, their bodies of strike cards, and the listing.
+
+use crate::code::{decode, Card};
+use crate::refusal::Refusal;
+use std::collections::HashMap;
+use std::fmt::Write;
+use std::ops::Range;
+use std::sync::Mutex;
+
+pub const LONGEST_BOOK: usize = 65_536;
+pub const LONGEST_BODY: usize = 65_532;
+const CARD_BYTES: usize = 12;
+
+#[derive(Clone, Copy, PartialEq, Eq, Debug)]
+pub struct Strike {
+    pub bell: u32,
+    pub force: u32,
+    pub delay: u32,
+    /// The rank of the card's damage.
+    pub damage: u32,
+}
+
+/// One entry of the contents.
+struct Entry {
+    tune: u32,
+    offset: usize,
+    cards: usize,
+}
+
+impl Entry {
+    fn body(&self) -> Range<usize> {
+        self.offset..self.offset + CARD_BYTES * self.cards
+    }
+}
+
+/// The count of tunes ("Open").
+pub fn open(book: &[u8]) -> Result<u32, Refusal> {
+    Ok(contents(book)?.len() as u32)
+}
+
+/// Where in the book the body of a tune lies ("Pull").
+pub fn tune_body(book: &[u8], number: u32) -> Result<Range<usize>, Refusal> {
+    let entries = contents(book)?;
+    let entry = entries.iter().find(|entry| entry.tune == number);
+    Ok(entry.ok_or(Refusal::NoSuchTune)?.body())
+}
+
+/// The strike of a body's card, counted from 1 ("Read").
+pub fn read_card(body: &[u8], number: u32) -> Result<Strike, Refusal> {
+    let cards = cards(body)?;
+    let place = (number as usize).checked_sub(1);
+    let card = place.and_then(|place| cards.get(place));
+    strike(card.ok_or(Refusal::NoSuchCard)?)
+}
+
+/// The delays of all readable cards together ("Length").
+pub fn total_delay(body: &[u8]) -> Result<u32, Refusal> {
+    let strikes = cards(body)?.into_iter().map(|card| strike(&card));
+    Ok(strikes.flatten().map(|strike| strike.delay).sum())
+}
+
+/// The numbers of all cards that `read_card` refuses or finds damaged: "Worn"
+/// may give any of them, or says "none".
+pub fn damaged_cards(body: &[u8]) -> Result<Vec<u32>, Refusal> {
+    let cards = cards(body)?;
+    let worn = |card: &Card| strike(card).map_or(true, |strike| strike.damage > 0);
+    let numbered = (1..).zip(&cards);
+    Ok(numbered
+        .filter(|(_, card)| worn(card))
+        .map(|(number, _)| number)
+        .collect())
+}
+
+/// What the listing program prints for a book.
+pub fn listing(book: &[u8]) -> String {
+    let entries = match contents(book) {
+        Ok(entries) => entries,
+        Err(refusal) => return format!("book refused {}\n", refusal.number()),
+    };
+    let mut text = String::new();
+    for entry in entries {
+        let body = &book[entry.body()];
+        writeln!(text, "tune {} {}", entry.tune, entry.cards).unwrap();
+        for (number, card) in (1..).zip(cards(body).expect("a tune's body")) {
+            list_card(&mut text, number, &card);
+        }
+        let ticks = total_delay(body).expect("a tune's body");
+        writeln!(text, "ticks {ticks}").unwrap();
+    }
+    text
+}
+
+fn list_card(text: &mut String, number: u32, card: &Card) {
+    match strike(card) {
+        Ok(s) => writeln!(
+            text,
+            "{number} {} {} {} {}",
+            s.bell, s.force, s.delay, s.damage
+        ),
+        Err(refusal) => writeln!(text, "{number} refused {}", refusal.number()),
+    }
+    .unwrap();
+}
+
+fn big_endian(bytes: &[u8]) -> usize {
+    bytes.iter().fold(0, |n, byte| n << 8 | usize::from(*byte))
+}
+
+fn contents(book: &[u8]) -> Result<Vec<Entry>, Refusal> {
+    if book.len() > LONGEST_BOOK {
+        return Err(Refusal::BookSize);
+    }
+    let (count, rest) = book.split_at_checked(2).ok_or(Refusal::BookSize)?;
+    let count = big_endian(count);
+    let entries = rest.get(..8 * count).ok_or(Refusal::BookSize)?;
+    let entries: Vec<Entry> = entries.chunks_exact(8).map(entry).collect();
+    check_tune_numbers(&entries)?;
+    check_layout(&entries, book.len())?;
+    Ok(entries)
+}
+
+fn entry(bytes: &[u8]) -> Entry {
+    Entry {
+        tune: big_endian(&bytes[..2]) as u32,
+        offset: big_endian(&bytes[2..6]),
+        cards: big_endian(&bytes[6..]),
+    }
+}
+
+fn check_tune_numbers(entries: &[Entry]) -> Result<(), Refusal> {
+    let in_range = entries.iter().all(|e| (1..=9_999).contains(&e.tune));
+    let rising = entries.windows(2).all(|pair| pair[0].tune < pair[1].tune);
+    match in_range && rising {
+        true => Ok(()),
+        false => Err(Refusal::TuneNumbers),
+    }
+}
+
+fn check_layout(entries: &[Entry], book_len: usize) -> Result<(), Refusal> {
+    let mut end = 2 + 8 * entries.len();
+    for entry in entries {
+        if entry.cards == 0 || entry.offset != end {
+            return Err(Refusal::Layout);
+        }
+        end = entry.body().end;
+    }
+    match end == book_len {
+        true => Ok(()),
+        false => Err(Refusal::Layout),
+    }
+}
+
+/// The cards of a body.
+fn cards(body: &[u8]) -> Result<Vec<Card>, Refusal> {
+    if body.len() > LONGEST_BODY || !body.len().is_multiple_of(CARD_BYTES) {
+        return Err(Refusal::Length);
+    }
+    let card = |bytes: &[u8]| std::array::from_fn(|i| big_endian(&bytes[2 * i..2 * i + 2]) as u16);
+    Ok(body.chunks_exact(CARD_BYTES).map(card).collect())
+}
+
+/// The strike of one card. Each card is decoded once and then remembered,
+/// because decoding tries all 531,441 messages.
+fn strike(card: &Card) -> Result<Strike, Refusal> {
+    static KNOWN: Mutex<Option<HashMap<Card, Result<Strike, Refusal>>>> = Mutex::new(None);
+    let known = || KNOWN.lock().expect("no holder of the lock panics");
+    if let Some(answer) = known().as_ref().and_then(|map| map.get(card)) {
+        return *answer;
+    }
+    let answer = decode(2, card, 6, 4).map(|decoded| {
+        let values: Vec<u32> = decoded.message.iter().map(|m| u32::from(*m)).collect();
+        Strike {
+            bell: values[0],
+            force: values[1],
+            delay: 27 * values[2] + values[3],
+            damage: decoded.distance,
+        }
+    });
+    known()
+        .get_or_insert_with(HashMap::new)
+        .insert(*card, answer);
+    answer
+}

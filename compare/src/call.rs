@@ -1,0 +1,341 @@
+//! Calls of the nine operations, and what comes of them: by the reference, and
+//! by another implementation.
+//!
+//! Both can be printed as one line of decimal numbers. A call's line is the
+//! number of the operation (1 to 9, in the order of `Call`), then its number
+//! if it has one (k, a tune's or a card's number), then its lists, each as its
+//! length and its values. An outcome's line is the status (0 or the refusal),
+//! then the numbers given back if the status is 0, then the final values of
+//! the lists that the call lends to be filled, without their lengths.
+
+use crate::library::Library;
+use crate::refusal::Refusal;
+use crate::{book, code};
+
+/// Lists to be filled (`word`, `values`, and the `message` of `Decode`) are
+/// given with what they hold before.
+#[derive(Clone, Debug)]
+pub enum Call {
+    Encode {
+        k: u32,
+        message: Vec<u16>,
+        word: Vec<u16>,
+    },
+    Weight {
+        symbols: Vec<u16>,
+    },
+    Syndrome {
+        k: u32,
+        received: Vec<u16>,
+        values: Vec<u16>,
+    },
+    Decode {
+        k: u32,
+        received: Vec<u16>,
+        word: Vec<u16>,
+        message: Vec<u16>,
+    },
+    Open {
+        book: Vec<u8>,
+    },
+    TuneBody {
+        number: u32,
+        book: Vec<u8>,
+    },
+    ReadCard {
+        number: u32,
+        body: Vec<u8>,
+    },
+    TotalDelay {
+        body: Vec<u8>,
+    },
+    DamagedCard {
+        body: Vec<u8>,
+    },
+}
+
+#[derive(Clone, PartialEq, Eq, Debug)]
+pub struct Outcome {
+    pub status: u32,
+    /// The numbers given back; none on a refusal.
+    pub numbers: Vec<u32>,
+    /// The final values of the lists to be filled.
+    pub lists: Vec<Vec<u16>>,
+}
+
+/// The numbers given back and the lists filled.
+type Answer = (Vec<u32>, Vec<Vec<u16>>);
+
+/// What an out number holds before a call.
+const UNTOUCHED: u32 = 3_141_592_653;
+
+/// What lies before and after each lent list.
+const GUARD: [u8; 16] = [77; 16];
+
+impl Call {
+    pub fn line(&self) -> String {
+        let (operation, number, lists) = self.parts();
+        let mut numbers = vec![operation];
+        numbers.extend(number);
+        for list in lists {
+            numbers.push(list.len() as u32);
+            numbers.extend(list);
+        }
+        decimal(numbers)
+    }
+
+    fn parts(&self) -> (u32, Option<u32>, Vec<Vec<u32>>) {
+        match self {
+            Call::Encode { k, message, word } => (1, Some(*k), vec![wide(message), wide(word)]),
+            Call::Weight { symbols } => (2, None, vec![wide(symbols)]),
+            Call::Syndrome {
+                k,
+                received,
+                values,
+            } => (3, Some(*k), vec![wide(received), wide(values)]),
+            Call::Decode {
+                k,
+                received,
+                word,
+                message,
+            } => (4, Some(*k), vec![wide(received), wide(word), wide(message)]),
+            Call::Open { book } => (5, None, vec![wide(book)]),
+            Call::TuneBody { number, book } => (6, Some(*number), vec![wide(book)]),
+            Call::ReadCard { number, body } => (7, Some(*number), vec![wide(body)]),
+            Call::TotalDelay { body } => (8, None, vec![wide(body)]),
+            Call::DamagedCard { body } => (9, None, vec![wide(body)]),
+        }
+    }
+
+    /// All outcomes that the reference accepts. There is one, save that any
+    /// damaged card may be named.
+    pub fn accepted(&self) -> Vec<Outcome> {
+        match self.answers() {
+            Ok(answers) => answers
+                .into_iter()
+                .map(|(numbers, lists)| Outcome {
+                    status: 0,
+                    numbers,
+                    lists,
+                })
+                .collect(),
+            Err(refusal) => vec![Outcome {
+                status: refusal.number(),
+                numbers: vec![],
+                lists: self.lists_to_fill(),
+            }],
+        }
+    }
+
+    fn answers(&self) -> Result<Vec<Answer>, Refusal> {
+        let answer = match self {
+            Call::Encode { k, message, word } => {
+                let word = code::encode(*k, message, word.len())?;
+                (vec![], vec![word.to_vec()])
+            }
+            Call::Weight { symbols } => (vec![code::weight(symbols)?], vec![]),
+            Call::Syndrome {
+                k,
+                received,
+                values,
+            } => {
+                let values = code::syndrome(*k, received, values.len())?;
+                (vec![], vec![values])
+            }
+            Call::Decode {
+                k,
+                received,
+                word,
+                message,
+            } => {
+                let decoded = code::decode(*k, received, word.len(), message.len())?;
+                let lists = vec![decoded.word.to_vec(), decoded.message];
+                (vec![decoded.distance], lists)
+            }
+            Call::Open { book } => (vec![book::open(book)?], vec![]),
+            Call::TuneBody { number, book } => {
+                let body = book::tune_body(book, *number)?;
+                (vec![body.start as u32, body.len() as u32], vec![])
+            }
+            Call::ReadCard { number, body } => {
+                let s = book::read_card(body, *number)?;
+                (vec![s.bell, s.force, s.delay, s.damage], vec![])
+            }
+            Call::TotalDelay { body } => (vec![book::total_delay(body)?], vec![]),
+            Call::DamagedCard { body } => return damaged_answers(body),
+        };
+        Ok(vec![answer])
+    }
+
+    fn lists_to_fill(&self) -> Vec<Vec<u16>> {
+        match self {
+            Call::Encode { word, .. } => vec![word.clone()],
+            Call::Syndrome { values, .. } => vec![values.clone()],
+            Call::Decode { word, message, .. } => vec![word.clone(), message.clone()],
+            _ => vec![],
+        }
+    }
+
+    /// What an implementation makes of the call. Panics if it changes a list
+    /// that is not lent to be filled, or writes outside a list.
+    pub fn run<L: Library>(&self) -> Outcome {
+        match self {
+            Call::Encode { k, message, word } => {
+                let mut word = Lent::new(word);
+                let status = self.reading(message, |m| L::encode(*k, m, word.list()));
+                outcome(status, &[], vec![word.values(self)])
+            }
+            Call::Weight { symbols } => {
+                let mut rank = UNTOUCHED;
+                let status = self.reading(symbols, |s| L::weight(s, &mut rank));
+                outcome(status, &[rank], vec![])
+            }
+            Call::Syndrome {
+                k,
+                received,
+                values,
+            } => {
+                let mut values = Lent::new(values);
+                let status = self.reading(received, |r| L::syndrome(*k, r, values.list()));
+                outcome(status, &[], vec![values.values(self)])
+            }
+            Call::Decode {
+                k,
+                received,
+                word,
+                message,
+            } => {
+                let (mut word, mut message) = (Lent::new(word), Lent::new(message));
+                let mut distance = UNTOUCHED;
+                let status = self.reading(received, |r| {
+                    L::decode(*k, r, word.list(), message.list(), &mut distance)
+                });
+                let lists = vec![word.values(self), message.values(self)];
+                outcome(status, &[distance], lists)
+            }
+            Call::Open { book } => {
+                let mut tunes = UNTOUCHED;
+                let status = self.reading(book, |b| L::open(b, &mut tunes));
+                outcome(status, &[tunes], vec![])
+            }
+            Call::TuneBody { number, book } => {
+                let (mut offset, mut length) = (UNTOUCHED, UNTOUCHED);
+                let status =
+                    self.reading(book, |b| L::tune_body(b, *number, &mut offset, &mut length));
+                outcome(status, &[offset, length], vec![])
+            }
+            Call::ReadCard { number, body } => {
+                let mut strike = [UNTOUCHED; 4];
+                let status = self.reading(body, |b| L::read_card(b, *number, &mut strike));
+                outcome(status, &strike, vec![])
+            }
+            Call::TotalDelay { body } => {
+                let mut ticks = UNTOUCHED;
+                let status = self.reading(body, |b| L::total_delay(b, &mut ticks));
+                outcome(status, &[ticks], vec![])
+            }
+            Call::DamagedCard { body } => {
+                let mut card = UNTOUCHED;
+                let status = self.reading(body, |b| L::damaged_card(b, &mut card));
+                outcome(status, &[card], vec![])
+            }
+        }
+    }
+
+    /// Lends a list to be read.
+    fn reading<T: Value>(&self, list: &[T], run: impl FnOnce(&[T]) -> u32) -> u32 {
+        let mut lent = Lent::new(list);
+        let status = run(lent.list());
+        let unchanged = lent.values(self) == list;
+        assert!(unchanged, "{self:?}\nchanges a list lent to be read");
+        status
+    }
+
+    /// Panics, with the call, if the implementation and the reference
+    /// disagree.
+    pub fn check<L: Library>(&self) {
+        self.expect::<L>(&self.accepted());
+    }
+
+    /// As `check`, where the outcome is known.
+    pub fn expect<L: Library>(&self, accepted: &[Outcome]) {
+        let outcome = self.run::<L>();
+        assert!(
+            accepted.contains(&outcome),
+            "{self:?}\ngives    {}\nexpected {}",
+            outcome.line(),
+            accepted[0].line()
+        );
+    }
+}
+
+impl Outcome {
+    pub fn line(&self) -> String {
+        let mut numbers = vec![self.status];
+        numbers.extend(&self.numbers);
+        numbers.extend(self.lists.iter().flatten().map(|value| u32::from(*value)));
+        decimal(numbers)
+    }
+}
+
+fn wide<T: Copy + Into<u32>>(list: &[T]) -> Vec<u32> {
+    list.iter().map(|value| (*value).into()).collect()
+}
+
+fn decimal(numbers: Vec<u32>) -> String {
+    let words: Vec<String> = numbers.iter().map(u32::to_string).collect();
+    words.join(" ")
+}
+
+/// Any damaged card, or 0 if there is none.
+fn damaged_answers(body: &[u8]) -> Result<Vec<Answer>, Refusal> {
+    let mut cards = book::damaged_cards(body)?;
+    if cards.is_empty() {
+        cards.push(0);
+    }
+    Ok(cards.into_iter().map(|card| (vec![card], vec![])).collect())
+}
+
+/// The outcome of an implementation. Numbers that a refusal left alone are
+/// left out; any others show.
+fn outcome(status: u32, numbers: &[u32], lists: Vec<Vec<u16>>) -> Outcome {
+    let untouched = numbers.iter().all(|number| *number == UNTOUCHED);
+    let numbers = match status != 0 && untouched {
+        true => vec![],
+        false => numbers.to_vec(),
+    };
+    Outcome {
+        status,
+        numbers,
+        lists,
+    }
+}
+
+/// What lists hold: symbols, message values or bytes.
+trait Value: Copy + PartialEq + From<u8> {}
+
+impl Value for u16 {}
+impl Value for u8 {}
+
+/// A lent list, between guards.
+struct Lent<T>(Vec<T>);
+
+impl<T: Value> Lent<T> {
+    fn new(values: &[T]) -> Lent<T> {
+        let guard = GUARD.map(T::from);
+        Lent([&guard, values, &guard].concat())
+    }
+
+    fn list(&mut self) -> &mut [T] {
+        let end = self.0.len() - GUARD.len();
+        &mut self.0[GUARD.len()..end]
+    }
+
+    /// What the list holds after a call.
+    fn values(mut self, call: &Call) -> Vec<T> {
+        let values = self.list().to_vec();
+        let intact = self.0 == Lent::new(&values).0;
+        assert!(intact, "{call:?}\nwrites outside a list");
+        values
+    }
+}

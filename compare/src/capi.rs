@@ -1,0 +1,123 @@
+//! The proved library, through the C interface of its crate `capi`. Nothing
+//! checks these declarations against that crate: they are kept the same by
+//! hand.
+
+use crate::library::Library;
+
+mod raw {
+    // Passed to the linker with the final program, and kept out of this
+    // package's own library.
+    #[link(name = "capi", kind = "static", modifiers = "-bundle")]
+    extern "C" {
+        pub fn lucetcoral_encode(
+            k: u32,
+            message: *const u16,
+            message_len: usize,
+            word: *mut u16,
+            word_len: usize,
+        ) -> u32;
+        pub fn lucetcoral_weight(symbols: *const u16, symbols_len: usize, rank: *mut u32) -> u32;
+        pub fn lucetcoral_syndrome(
+            k: u32,
+            received: *const u16,
+            received_len: usize,
+            values: *mut u16,
+            values_len: usize,
+        ) -> u32;
+        pub fn lucetcoral_decode(
+            k: u32,
+            received: *const u16,
+            received_len: usize,
+            word: *mut u16,
+            word_len: usize,
+            message: *mut u16,
+            message_len: usize,
+            distance: *mut u32,
+        ) -> u32;
+        pub fn lucetcoral_open(book: *const u8, book_len: usize, tunes: *mut u32) -> u32;
+        pub fn lucetcoral_tune_body(
+            book: *const u8,
+            book_len: usize,
+            number: u32,
+            offset: *mut u32,
+            length: *mut u32,
+        ) -> u32;
+        pub fn lucetcoral_read_card(
+            body: *const u8,
+            body_len: usize,
+            number: u32,
+            bell: *mut u32,
+            force: *mut u32,
+            delay: *mut u32,
+            damage: *mut u32,
+        ) -> u32;
+        pub fn lucetcoral_total_delay(body: *const u8, body_len: usize, ticks: *mut u32) -> u32;
+        pub fn lucetcoral_damaged_card(body: *const u8, body_len: usize, card: *mut u32) -> u32;
+    }
+}
+
+/// The proved library. Its calls are sound for all arguments: each pointer
+/// comes from a reference, or from a slice with its own length, and the
+/// contracts ask nothing more.
+pub struct Proved;
+
+impl Library for Proved {
+    fn encode(k: u32, message: &[u16], word: &mut [u16]) -> u32 {
+        let (message, message_len) = (message.as_ptr(), message.len());
+        let (word, word_len) = (word.as_mut_ptr(), word.len());
+        unsafe { raw::lucetcoral_encode(k, message, message_len, word, word_len) }
+    }
+
+    fn weight(symbols: &[u16], rank: &mut u32) -> u32 {
+        unsafe { raw::lucetcoral_weight(symbols.as_ptr(), symbols.len(), rank) }
+    }
+
+    fn syndrome(k: u32, received: &[u16], values: &mut [u16]) -> u32 {
+        let (received, received_len) = (received.as_ptr(), received.len());
+        let (values, values_len) = (values.as_mut_ptr(), values.len());
+        unsafe { raw::lucetcoral_syndrome(k, received, received_len, values, values_len) }
+    }
+
+    fn decode(
+        k: u32,
+        received: &[u16],
+        word: &mut [u16],
+        message: &mut [u16],
+        distance: &mut u32,
+    ) -> u32 {
+        unsafe {
+            raw::lucetcoral_decode(
+                k,
+                received.as_ptr(),
+                received.len(),
+                word.as_mut_ptr(),
+                word.len(),
+                message.as_mut_ptr(),
+                message.len(),
+                distance,
+            )
+        }
+    }
+
+    fn open(book: &[u8], tunes: &mut u32) -> u32 {
+        unsafe { raw::lucetcoral_open(book.as_ptr(), book.len(), tunes) }
+    }
+
+    fn tune_body(book: &[u8], number: u32, offset: &mut u32, length: &mut u32) -> u32 {
+        unsafe { raw::lucetcoral_tune_body(book.as_ptr(), book.len(), number, offset, length) }
+    }
+
+    fn read_card(body: &[u8], number: u32, strike: &mut [u32; 4]) -> u32 {
+        let (body, body_len) = (body.as_ptr(), body.len());
+        let [bell, force, delay, damage] = strike;
+        unsafe { raw::lucetcoral_read_card(body, body_len, number, bell, force, delay, damage) }
+    }
+
+    fn total_delay(body: &[u8], ticks: &mut u32) -> u32 {
+        unsafe { raw::lucetcoral_total_delay(body.as_ptr(), body.len(), ticks) }
+    }
+
+    fn damaged_card(body: &[u8], card: &mut u32) -> u32 {
+        unsafe { raw::lucetcoral_damaged_card(body.as_ptr(), body.len(), card) }
+    }
+}

@@ -1,0 +1,39 @@
+//! The nine operations as the C interface has them, for the implementations
+//! that are compared with the reference.
+
+/// Every function returns 0 when done, or the number of a refusal, which
+/// leaves the lists and the numbers that it was lent as they were.
+pub trait Library {
+    /// "Press".
+    fn encode(k: u32, message: &[u16], word: &mut [u16]) -> u32;
+
+    /// "Weigh".
+    fn weight(symbols: &[u16], rank: &mut u32) -> u32;
+
+    /// "Test".
+    fn syndrome(k: u32, received: &[u16], values: &mut [u16]) -> u32;
+
+    /// "Mend".
+    fn decode(
+        k: u32,
+        received: &[u16],
+        word: &mut [u16],
+        message: &mut [u16],
+        distance: &mut u32,
+    ) -> u32;
+
+    /// "Open".
+    fn open(book: &[u8], tunes: &mut u32) -> u32;
+
+    /// "Pull".
+    fn tune_body(book: &[u8], number: u32, offset: &mut u32, length: &mut u32) -> u32;
+
+    /// "Read"; the strike is the bell, the force, the delay and the damage.
+    fn read_card(body: &[u8], number: u32, strike: &mut [u32; 4]) -> u32;
+
+    /// "Length".
+    fn total_delay(body: &[u8], ticks: &mut u32) -> u32;
+
+    /// "Worn"; the card is 0 if none is damaged.
+    fn damaged_card(body: &[u8], card: &mut u32) -> u32;
+}

@@ -1,0 +1,5 @@
+//! The proved library against the reference.
+
+mod suite;
+
+suite!(compare::capi::Proved);

@@ -1,0 +1,288 @@
+//! The reference alone: every case of the paper, and the facts that the paper
+//! states of the field and the code. Needs no proved library.
+
+use compare::book;
+use compare::code::{decode, decode_by_messages, encode, radius, syndrome, weight, Card, Decoded};
+use compare::digits::Digits;
+use compare::field::{of_small, small_number, Element};
+use compare::random::Random;
+use compare::rank::{rank, square, symbols};
+use compare::refusal::Refusal;
+use compare::samples;
+use std::collections::HashSet;
+
+fn power_of_z(exponent: u32) -> u16 {
+    Element::z().pow(exponent).symbol()
+}
+
+fn mend(k: u32, received: Card) -> Result<Decoded, Refusal> {
+    decode(k, &received, 6, 2 * k as usize)
+}
+
+fn zero_word(k: u32, distance: u32) -> Result<Decoded, Refusal> {
+    Ok(Decoded {
+        word: [0; 6],
+        message: vec![0; 2 * k as usize],
+        distance,
+    })
+}
+
+#[test]
+fn field_cases() {
+    assert_eq!([6, 8, 28].map(power_of_z), [103, 31, 650]);
+    assert_eq!(Element::of_symbol(650).frobenius(1).symbol(), 649);
+    assert_eq!([1, 3, 9].map(|c| of_small(c).symbol()), [1, 650, 137]);
+}
+
+#[test]
+fn field_facts() {
+    let powers: HashSet<u16> = (0..728).map(power_of_z).collect();
+    assert_eq!(powers.len(), 728);
+    assert_eq!(power_of_z(728), 1);
+    assert_eq!(power_of_z(13), 377);
+    // The norm of gamma = z.
+    assert_eq!(power_of_z(364), 2);
+    for symbol in 0..729 {
+        let x = Element::of_symbol(symbol);
+        assert_eq!(small_number(x).is_some(), x.pow(27) == x);
+        assert_eq!(x.symbol(), symbol);
+        if symbol > 0 {
+            assert_eq!(x * x.inverse(), Element::one());
+        }
+    }
+}
+
+#[test]
+fn encode_cases() {
+    let cases: [(u32, &[u16], Card); 4] = [
+        (1, &[1, 0], [1, 3, 9, 27, 81, 243]),
+        (1, &[0, 1], [3, 81, 309, 279, 377, 56]),
+        (2, &[0, 1, 0, 0], [1, 27, 103, 93, 633, 538]),
+        (2, &[0, 0, 0, 1], [3, 279, 233, 650, 423, 163]),
+    ];
+    for (k, message, word) in cases {
+        assert_eq!(encode(k, message, 6), Ok(word));
+    }
+}
+
+#[test]
+fn decode_cases() {
+    assert_eq!(mend(1, [1, 3, 9, 0, 0, 0]), Err(Refusal::Undecodable));
+    assert_eq!(mend(2, [1, 3, 0, 0, 0, 0]), zero_word(2, 2));
+    assert_eq!(mend(3, [1, 3, 0, 0, 0, 0]), Err(Refusal::Undecodable));
+    assert_eq!(mend(3, [1, 0, 0, 0, 0, 0]), zero_word(3, 1));
+    assert_eq!(mend(4, [1; 6]), zero_word(4, 1));
+    assert_eq!(mend(5, [1, 0, 0, 0, 0, 0]), Err(Refusal::Undecodable));
+}
+
+#[test]
+fn boundary_cases() {
+    for k in [0, 6, u32::MAX] {
+        assert_eq!(encode(k, &[], 0), Err(Refusal::Parameter));
+        assert_eq!(syndrome(k, &[], 0), Err(Refusal::Parameter));
+        assert_eq!(decode(k, &[], 0, 0), Err(Refusal::Parameter));
+    }
+    assert_eq!(weight(&[728; 6]), Ok(1));
+    assert_eq!(weight(&[729; 6]), Err(Refusal::Range));
+    assert!(encode(1, &[26, 26], 6).is_ok());
+    assert_eq!(encode(1, &[26, 27], 6), Err(Refusal::Range));
+    assert_eq!(book::open(&[0]), Err(Refusal::BookSize));
+    assert_eq!(book::open(&[0, 0]), Ok(0));
+    assert_eq!(book::open(&[0, 0, 0]), Err(Refusal::Layout));
+}
+
+#[test]
+fn order_of_refusals() {
+    for k in 1..=5 {
+        let values = 2 * k as usize;
+        assert_eq!(encode(k, &[27; 9], 6), Err(Refusal::Length));
+        assert_eq!(encode(k, &vec![27; values], 5), Err(Refusal::Length));
+        assert_eq!(encode(k, &vec![27; values], 6), Err(Refusal::Range));
+        assert_eq!(syndrome(k, &[729; 6], 11), Err(Refusal::Length));
+        assert_eq!(syndrome(k, &[729; 5], 12 - values), Err(Refusal::Length));
+        assert_eq!(syndrome(k, &[729; 6], 12 - values), Err(Refusal::Range));
+        assert_eq!(decode(k, &[729; 6], 7, values), Err(Refusal::Length));
+        assert_eq!(decode(k, &[729; 6], 6, 11), Err(Refusal::Length));
+        assert_eq!(decode(k, &[729; 6], 6, values), Err(Refusal::Range));
+    }
+    assert_eq!(weight(&[729; 5]), Err(Refusal::Length));
+}
+
+#[test]
+fn listing_case() {
+    let cards = [
+        [1, 3, 9, 27, 81, 243],
+        [3, 279, 233, 650, 423, 163],
+        [2, 3, 9, 27, 81, 243],
+        [729, 3, 9, 27, 81, 243],
+    ];
+    let bytes = samples::book(&[(7, samples::body(&cards))]);
+    assert_eq!(bytes[..10], [0, 1, 0, 7, 0, 0, 0, 10, 0, 4]);
+    let text = "tune 7 4\n1 1 0 0 0\n2 0 0 1 0\n3 1 0 0 1\n4 refused 3\nticks 1\n";
+    assert_eq!(book::listing(&bytes), text);
+
+    let body = &bytes[book::tune_body(&bytes, 7).unwrap()];
+    assert_eq!(book::damaged_cards(body), Ok(vec![3, 4]));
+    assert_eq!(book::read_card(body, 0), Err(Refusal::NoSuchCard));
+    assert_eq!(book::read_card(body, 5), Err(Refusal::NoSuchCard));
+    assert_eq!(book::tune_body(&bytes, 8), Err(Refusal::NoSuchTune));
+    assert_eq!(book::listing(&[0]), "book refused 5\n");
+    assert_eq!(book::listing(&vec![0; 65_537]), "book refused 5\n");
+    assert_eq!(book::listing(&[0, 0]), "");
+}
+
+/// Values 2 and 3 are 27·m2 + m3, not the other way round.
+#[test]
+fn delay_case() {
+    let word = encode(2, &[0, 0, 0, 5], 6).unwrap();
+    assert_eq!(book::total_delay(&samples::body(&[word])), Ok(5));
+    let word = encode(2, &[0, 0, 5, 0], 6).unwrap();
+    assert_eq!(book::total_delay(&samples::body(&[word, word])), Ok(270));
+    assert_eq!(book::total_delay(&[]), Ok(0));
+}
+
+#[test]
+fn book_refusals() {
+    let body = samples::body(&[[1, 3, 9, 27, 81, 243]]);
+    let good = samples::book(&[(3, body.clone()), (4, body.clone())]);
+    assert_eq!(book::open(&good), Ok(2));
+    let changed = |place: usize, byte: u8| {
+        let mut book = good.clone();
+        book[place] = byte;
+        book::open(&book)
+    };
+    assert_eq!(changed(0, 1), Err(Refusal::BookSize));
+    assert_eq!(changed(3, 4), Err(Refusal::TuneNumbers));
+    assert_eq!(changed(3, 0), Err(Refusal::TuneNumbers));
+    assert_eq!(changed(10, 0x28), Err(Refusal::TuneNumbers));
+    assert_eq!(changed(7, 19), Err(Refusal::Layout));
+    assert_eq!(changed(9, 0), Err(Refusal::Layout));
+    assert_eq!(changed(17, 2), Err(Refusal::Layout));
+    // Tune numbers come before the layout, in all entries.
+    let mut both = good.clone();
+    both[9] = 0;
+    both[11] = 3;
+    assert_eq!(book::open(&both), Err(Refusal::TuneNumbers));
+
+    for (number, result) in [(9_999, Ok(1)), (10_000, Err(Refusal::TuneNumbers))] {
+        assert_eq!(
+            book::open(&samples::book(&[(number, body.clone())])),
+            result
+        );
+    }
+    let longest = samples::book(&[(1, vec![0; 12 * 5_460])]);
+    assert_eq!((longest.len(), book::open(&longest)), (65_530, Ok(1)));
+    assert_eq!(book::total_delay(&[0; 65_532]), Ok(0));
+    assert_eq!(book::total_delay(&[0; 65_544]), Err(Refusal::Length));
+    assert_eq!(book::total_delay(&[0; 13]), Err(Refusal::Length));
+}
+
+/// Words of k = 1 and 2 have at least the rank 7 - k, and some have it. For
+/// k = 3 and 4 decoding asserts it of what it needs: errors of rank 1 have
+/// different residues.
+#[test]
+fn least_distance() {
+    for k in 1..=2u32 {
+        let count = 27u32.pow(2 * k);
+        let least = (1..count)
+            .map(|number| {
+                let digits = (0..2 * k).map(|place| (number / 27u32.pow(place) % 27) as u16);
+                let message: Vec<u16> = digits.collect();
+                weight(&encode(k, &message, 6).unwrap()).unwrap()
+            })
+            .min();
+        assert_eq!(least, Some(7 - k));
+    }
+}
+
+/// The test values are zero exactly for the words: they are zero for words,
+/// additive, and take 27^(12 - 2k) values, so that 27^(2k) cards have zeros.
+#[test]
+fn syndrome_facts() {
+    let mut random = Random::new(2);
+    for k in 1..=5u32 {
+        let count = 12 - 2 * k as usize;
+        let values = |card: &Card| syndrome(k, card, count).unwrap();
+        let packed = |card: &Card| -> Digits {
+            let digits = (0u32..).zip(values(card));
+            digits
+                .map(|(i, value)| Digits::of_number(value.into()).shift_up(3 * i))
+                .sum()
+        };
+        for _ in 0..200 {
+            let word = samples::sent(&mut random, k, 0).word;
+            assert_eq!(values(&word), vec![0; count]);
+            let (a, b) = (samples::card(&mut random), samples::card(&mut random));
+            let sum = symbols(square(&a) + square(&b));
+            assert_eq!(packed(&sum), packed(&a) + packed(&b));
+        }
+        let units = (0..36).map(|place| packed(&symbols(Digits::of_number(1).shift_up(place))));
+        assert_eq!(independent(units.collect()), 3 * count);
+    }
+}
+
+/// How many of the lists are no combination of those before them.
+fn independent(mut lists: Vec<Digits>) -> usize {
+    let mut count = 0;
+    for place in 0..36 {
+        let Some(found) = lists.iter().position(|list| list.digit(place) != 0) else {
+            continue;
+        };
+        let pivot = lists.swap_remove(found);
+        let pivot = pivot.scale(pivot.digit(place));
+        for list in &mut lists {
+            *list = *list - pivot.scale(list.digit(place));
+        }
+        count += 1;
+    }
+    count
+}
+
+/// The index that `decode` uses for k = 2 loses no word.
+#[test]
+fn all_messages_give_the_same() {
+    let mut random = Random::new(5);
+    for turn in 0..300 {
+        let card = match turn % 5 {
+            4 => samples::card(&mut random),
+            damage => samples::sent(&mut random, 2, damage).received,
+        };
+        assert_eq!(mend(2, card).ok(), decode_by_messages(2, &card));
+    }
+}
+
+#[test]
+fn damage_within_the_radius_is_decoded() {
+    let mut random = Random::new(3);
+    for k in 1..=5 {
+        for turn in 0..60 {
+            let damage = turn % (radius(k) + 1);
+            let sent = samples::sent(&mut random, k, damage);
+            let decoded = Decoded {
+                word: sent.word,
+                message: sent.message,
+                distance: damage,
+            };
+            assert_eq!(mend(k, sent.received), Ok(decoded));
+        }
+    }
+}
+
+#[test]
+fn damage_beyond_the_radius_is_never_taken_for_the_word() {
+    let mut random = Random::new(4);
+    for k in 1..=5 {
+        for turn in 0..60 {
+            let damage = radius(k) + 1 + turn % (6 - radius(k));
+            let sent = samples::sent(&mut random, k, damage);
+            let Ok(decoded) = mend(k, sent.received) else {
+                continue;
+            };
+            assert_ne!(decoded.word, sent.word);
+            assert_eq!(encode(k, &decoded.message, 6), Ok(decoded.word));
+            let difference = square(&sent.received) - square(&decoded.word);
+            assert_eq!(rank(difference), decoded.distance);
+            assert!(decoded.distance <= radius(k));
+        }
+    }
+}

@@ -1,0 +1,31 @@
+-- `book::bodies::total_delay` meets its contract: the test, then the sum. Assumes nothing.
+use mathlib.Core.Path.{_≡_, sym, _∙_}
+use mathlib.Core.Bool.{true}
+use denote.Ref.{now}
+use borrow.Author.Needs.{needs}
+use borrow.Author.Tests.{not-true, not-false}
+use Rattle.refusal.specs.Answers.{answer}
+use Rattle.book.specs.Layout.{body-good}
+use Rattle.book.specs.Bodies.{body-refusal}
+use Rattle.book.proofs.bodies.total_delay.Statement.{statement}
+use Rattle.book.proofs.bodies.total_delay.Tie as tie
+
+returns : tie.Need-returns
+unfolding answer body-refusal
+returns c = rw (sym (c .before .body-good .ensures) ∙ not-true _ (c .if1 .taken))
+
+good : (c : tie.Else1) → body-good (now (c .before .before .before .args .body)) ≡ true
+good c = sym (c .before .body-good .ensures) ∙ not-false _ (c .if1 .left)
+
+delays-requires : tie.Need-delays-requires
+delays-requires c κs =
+    (good (c .before .before .before .before), record { logs = c .before .before .before .logs .ensures; powers = c .before .before .powers .ensures })
+
+returns-2 : tie.Need-returns-2
+unfolding answer body-refusal
+returns-2 c = rw (good (c .before .before .before .before .before), c .delays .ensures)
+
+pub total-delay-spec : {M : Type 1} → statement M
+total-delay-spec =
+    tie.close
+    (tie.spec (λ c κs. search needs) returns (λ c κs. search needs) (λ c κs. search needs) delays-requires returns-2)

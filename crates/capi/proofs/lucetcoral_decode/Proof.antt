@@ -1,0 +1,15 @@
+-- `capi::lucetcoral_decode` meets its contract: the lists are decode's, and what the answer tells is given. Assumes nothing.
+use borrow.Author.Needs.{needs}
+use Rattle.capi.specs.Calls.{given-told}
+use Rattle.capi.proofs.lucetcoral_decode.Statement.{statement}
+use Rattle.capi.proofs.lucetcoral_decode.Tie as tie
+
+returns : tie.Need-returns
+returns c =
+    let d = c .before .before .before .before .before .before .decode .ensures in
+    let g = given-told _ _ _ _ _ _ (d .answers) (c .give .ensures .0) (c .give .ensures .1) in
+    record { answers = g .answers; word-is = d .word-is; message-is = d .message-is; distance-is = g .number-is }
+
+pub lucetcoral-decode-spec : {M : Type 1} → statement M
+lucetcoral-decode-spec =
+    tie.close (tie.spec (λ c κs. search needs) (λ c κs. search needs) (λ c. search needs) (λ c. search needs) returns)

@@ -1,0 +1,2 @@
+-- What the functions of the C interface promise.
+pub mod Calls

@@ -1,0 +1,42 @@
+// Runs calls of the nine operations, one a line of standard input, and prints a line for what comes of each. A call is the number of the
+// operation, then k or the number of a tune or a card if it takes one, then its lists, each as its length and its values. What comes of it
+// is the status, 0 or the refusal, then the numbers given back, then the lists that were lent to be filled.
+// Assumes what `io` and `libc` assume of reading and writing; of the input, at most 65,536 bytes are read.
+mod code;
+mod parse;
+mod print;
+mod tunes;
+
+fn run(line: &[u8]) {
+    let operation = parse::number(line, 0);
+    let at = operation.at;
+    let which = operation.value;
+    match which {
+        1 => code::encode(line, at),
+        2 => code::weight(line, at),
+        3 => code::syndrome(line, at),
+        4 => code::decode(line, at),
+        5 => tunes::open(line, at),
+        6 => tunes::tune_body(line, at),
+        7 => tunes::read_card(line, at),
+        8 => tunes::total_delay(line, at),
+        9 => tunes::damaged_card(line, at),
+        _ => {},
+    }
+    io::write_all(1, b"\n");
+}
+
+fn run_lines(text: &[u8]) {
+    let mut at = 0;
+    while at < text.len() {
+        let end = parse::line_end(text, at);
+        run(&text[at..end]);
+        at = end;
+    }
+}
+
+fn main() {
+    let mut buffer = io::large_buffer();
+    let n = io::read_full(0, &mut buffer);
+    run_lines(&buffer[..n]);
+}

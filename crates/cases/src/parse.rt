@@ -1,0 +1,122 @@
+// Decimal numbers, lists and lines from a text. Whatever is no digit separates numbers; a number that is missing is 0.
+// Assumes nothing.
+ghost use Prim.Native.Nat.{_<_, _≤_};
+ghost use lib.ListN.{length};
+ghost use Rattle.io.specs.Counts.{Counts};
+
+// A number, and where it ends in the text.
+pub struct Parsed {
+    pub value: u32,
+    pub at: usize,
+}
+
+// How many values were put into a list, and where it ends in the text.
+pub struct Filled {
+    pub count: usize,
+    pub at: usize,
+}
+
+// Where the line that begins at `at` ends, past its line end.
+pub fn line_end(text: &[u8], at: usize) -> usize
+    requires { ⌜ at < length (now text) ⌝ }
+    ensures { λ r. ⌜ (at < r) × (r ≤ length (now (text .entry))) ⌝ }
+{
+    let mut i = at;
+    while i < text.len() {
+        let byte = text[i];
+        i += 1;
+        if byte == b'\n' {
+            return i;
+        }
+    }
+    i
+}
+
+// The value of a digit, or a number above 9 for any other byte.
+fn digit(byte: u8) -> u8 {
+    std::num::wrapping_sub_u8(byte, b'0')
+}
+
+// The first digit from `at` on.
+fn digit_from(text: &[u8], at: usize) -> usize {
+    let mut i = at;
+    while i < text.len() {
+        if digit(text[i]) < 10 {
+            return i;
+        }
+        i += 1;
+    }
+    i
+}
+
+// A number with one digit more, by its rest by 2^32.
+fn appended(value: u32, last: u8) -> u32 {
+    ((10 * (value as u64) + (last as u64)) % 4294967296) as u32
+}
+
+// The first number from `at` on.
+pub fn number(text: &[u8], at: usize) -> Parsed {
+    let mut value = 0;
+    let mut i = digit_from(text, at);
+    while i < text.len() {
+        let next = digit(text[i]);
+        if 9 < next {
+            return Parsed {
+                value: value,
+                at: i,
+            };
+        }
+        value = appended(value, next);
+        i += 1;
+    }
+    Parsed {
+        value: value,
+        at: i,
+    }
+}
+
+fn least(a: usize, b: usize) -> usize
+    ensures { λ r. ⌜ r ≤ b ⌝ }
+{
+    if a < b { a } else { b }
+}
+
+// The first list from `at` on, as symbols or message values. What does not fit is left out.
+pub fn symbols(text: &[u8], at: usize, list: &mut [u16]) -> Filled
+    ensures { λ r. ⌜ Counts (r .count) (now (list .exit)) ⌝ }
+{
+    let length = number(text, at);
+    let count = least(length.value as usize, list.len());
+    let mut at = length.at;
+    let mut i = 0;
+    while i < count {
+        let next = number(text, at);
+        list[i] = (next.value % 65536) as u16;
+        at = next.at;
+        i += 1;
+    }
+    Filled {
+        count: count,
+        at: at,
+    }
+}
+
+// As `symbols`, of bytes.
+pub fn bytes(text: &[u8], at: usize, list: &mut [u8]) -> Filled
+    ensures { λ r. ⌜ Counts (r .count) (now (list .exit)) ⌝ }
+{
+    let length = number(text, at);
+    let count = least(length.value as usize, list.len());
+    let mut at = length.at;
+    let mut i = 0;
+    while i < count {
+        let next = number(text, at);
+        list[i] = (next.value % 256) as u8;
+        at = next.at;
+        i += 1;
+    }
+    Filled {
+        count: count,
+        at: at,
+    }
+}

@@ -1,0 +1,73 @@
+// What comes of a call, printed: the status, then the numbers given back, then the lists filled, with a space before all but the first.
+// Assumes what `io` and `libc` assume of writing.
+use book::Reading;
+use book::Worn;
+use refusal::Answer;
+use refusal::Outcome;
+use refusal::Refusal;
+
+// A number after the first.
+pub fn number(n: u64) {
+    io::write_all(1, b" ");
+    io::print_decimal(1, n);
+}
+
+// The status of a call that is done.
+pub fn done() {
+    io::write_all(1, b"0");
+}
+
+// The status of a call that is refused.
+pub fn refused(why: Refusal) {
+    io::print_decimal(1, refusal::number(why) as u64);
+}
+
+pub fn outcome(of: Outcome) {
+    match of {
+        Outcome::Done => done(),
+        Outcome::Refused(why) => refused(why),
+    }
+}
+
+// A status of 0 and one number.
+fn value(n: u32) {
+    done();
+    number(n as u64);
+}
+
+pub fn answer(of: Answer) {
+    match of {
+        Answer::Value(n) => value(n),
+        Answer::Refused(why) => refused(why),
+    }
+}
+
+pub fn reading(of: Reading) {
+    match of {
+        Reading::Strike(s) => {
+            done();
+            number(s.bell as u64);
+            number(s.force as u64);
+            number(s.delay as u64);
+            number(s.damage as u64);
+        },
+        Reading::Refused(why) => refused(why),
+    }
+}
+
+// Card 0 says that no card is damaged.
+pub fn worn(of: Worn) {
+    match of {
+        Worn::Card(n) => value(n),
+        Worn::Nothing => value(0),
+        Worn::Refused(why) => refused(why),
+    }
+}
+
+pub fn symbols(list: &[u16]) {
+    let mut i = 0;
+    while i < list.len() {
+        number(list[i] as u64);
+        i += 1;
+    }
+}
