@@ -9,7 +9,7 @@ fn run_encode(k: u32, message: &[u16], word: &mut [u16]) {
     print::symbols(word);
 }
 
-pub fn encode(line: &[u8], at: usize) {
+pub(crate) fn encode(line: &[u8], at: usize) {
     let mut message = [0u16; 16];
     let mut word = [0u16; 16];
     let k = parse::number(line, at);
@@ -18,7 +18,7 @@ pub fn encode(line: &[u8], at: usize) {
     run_encode(k.value, &message[..m.count], &mut word[..w.count]);
 }
 
-pub fn weight(line: &[u8], at: usize) {
+pub(crate) fn weight(line: &[u8], at: usize) {
     let mut symbols = [0u16; 16];
     let s = parse::symbols(line, at, &mut symbols);
     print::answer(rank::weight(&symbols[..s.count]));
@@ -29,7 +29,7 @@ fn run_syndrome(k: u32, received: &[u16], values: &mut [u16]) {
     print::symbols(values);
 }
 
-pub fn syndrome(line: &[u8], at: usize) {
+pub(crate) fn syndrome(line: &[u8], at: usize) {
     let mut received = [0u16; 16];
     let mut values = [0u16; 16];
     let k = parse::number(line, at);
@@ -44,7 +44,7 @@ fn run_decode(k: u32, received: &[u16], word: &mut [u16], message: &mut [u16]) {
     print::symbols(message);
 }
 
-pub fn decode(line: &[u8], at: usize) {
+pub(crate) fn decode(line: &[u8], at: usize) {
     let mut received = [0u16; 16];
     let mut word = [0u16; 16];
     let mut message = [0u16; 16];

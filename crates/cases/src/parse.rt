@@ -17,7 +17,7 @@ pub struct Filled {
 }
 
 // Where the line that begins at `at` ends, past its line end.
-pub fn line_end(text: &[u8], at: usize) -> usize
+pub(crate) fn line_end(text: &[u8], at: usize) -> usize
     requires { ⌜ at < length (now text) ⌝ }
     ensures { λ r. ⌜ (at < r) × (r ≤ length (now (text .entry))) ⌝ }
 {
@@ -55,7 +55,7 @@ fn appended(value: u32, last: u8) -> u32 {
 }
 
 // The first number from `at` on.
-pub fn number(text: &[u8], at: usize) -> Parsed {
+pub(crate) fn number(text: &[u8], at: usize) -> Parsed {
     let mut value = 0;
     let mut i = digit_from(text, at);
     while i < text.len() {
@@ -82,7 +82,7 @@ fn least(a: usize, b: usize) -> usize
 }
 
 // The first list from `at` on, as symbols or message values. What does not fit is left out.
-pub fn symbols(text: &[u8], at: usize, list: &mut [u16]) -> Filled
+pub(crate) fn symbols(text: &[u8], at: usize, list: &mut [u16]) -> Filled
     ensures { λ r. ⌜ Counts (r .count) (now (list .exit)) ⌝ }
 {
     let length = number(text, at);
@@ -102,7 +102,7 @@ pub fn symbols(text: &[u8], at: usize, list: &mut [u16]) -> Filled
 }
 
 // As `symbols`, of bytes.
-pub fn bytes(text: &[u8], at: usize, list: &mut [u8]) -> Filled
+pub(crate) fn bytes(text: &[u8], at: usize, list: &mut [u8]) -> Filled
     ensures { λ r. ⌜ Counts (r .count) (now (list .exit)) ⌝ }
 {
     let length = number(text, at);

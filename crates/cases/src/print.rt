@@ -7,22 +7,22 @@ use refusal::Outcome;
 use refusal::Refusal;
 
 // A number after the first.
-pub fn number(n: u64) {
+pub(crate) fn number(n: u64) {
     io::write_all(1, b" ");
     io::print_decimal(1, n);
 }
 
 // The status of a call that is done.
-pub fn done() {
+pub(crate) fn done() {
     io::write_all(1, b"0");
 }
 
 // The status of a call that is refused.
-pub fn refused(why: Refusal) {
+pub(crate) fn refused(why: Refusal) {
     io::print_decimal(1, refusal::number(why) as u64);
 }
 
-pub fn outcome(of: Outcome) {
+pub(crate) fn outcome(of: Outcome) {
     match of {
         Outcome::Done => done(),
         Outcome::Refused(why) => refused(why),
@@ -35,14 +35,14 @@ fn value(n: u32) {
     number(n as u64);
 }
 
-pub fn answer(of: Answer) {
+pub(crate) fn answer(of: Answer) {
     match of {
         Answer::Value(n) => value(n),
         Answer::Refused(why) => refused(why),
     }
 }
 
-pub fn reading(of: Reading) {
+pub(crate) fn reading(of: Reading) {
     match of {
         Reading::Strike(s) => {
             done();
@@ -56,7 +56,7 @@ pub fn reading(of: Reading) {
 }
 
 // Card 0 says that no card is damaged.
-pub fn worn(of: Worn) {
+pub(crate) fn worn(of: Worn) {
     match of {
         Worn::Card(n) => value(n),
         Worn::Nothing => value(0),
@@ -64,7 +64,7 @@ pub fn worn(of: Worn) {
     }
 }
 
-pub fn symbols(list: &[u16]) {
+pub(crate) fn symbols(list: &[u16]) {
     let mut i = 0;
     while i < list.len() {
         number(list[i] as u64);

@@ -7,7 +7,7 @@ use book::Tune;
 use refusal::Answer;
 use refusal::Outcome;
 
-pub fn open(line: &[u8], at: usize) {
+pub(crate) fn open(line: &[u8], at: usize) {
     let mut bytes = io::buffer();
     let b = parse::bytes(line, at, &mut bytes);
     print::answer(book::open(&bytes[..b.count]));
@@ -61,27 +61,27 @@ fn run_tune_body(bytes: &[u8], number: u32) {
     }
 }
 
-pub fn tune_body(line: &[u8], at: usize) {
+pub(crate) fn tune_body(line: &[u8], at: usize) {
     let mut bytes = io::buffer();
     let number = parse::number(line, at);
     let b = parse::bytes(line, number.at, &mut bytes);
     run_tune_body(&bytes[..b.count], number.value);
 }
 
-pub fn read_card(line: &[u8], at: usize) {
+pub(crate) fn read_card(line: &[u8], at: usize) {
     let mut bytes = io::buffer();
     let number = parse::number(line, at);
     let b = parse::bytes(line, number.at, &mut bytes);
     print::reading(book::read_card(&bytes[..b.count], number.value));
 }
 
-pub fn total_delay(line: &[u8], at: usize) {
+pub(crate) fn total_delay(line: &[u8], at: usize) {
     let mut bytes = io::buffer();
     let b = parse::bytes(line, at, &mut bytes);
     print::answer(book::total_delay(&bytes[..b.count]));
 }
 
-pub fn damaged_card(line: &[u8], at: usize) {
+pub(crate) fn damaged_card(line: &[u8], at: usize) {
     let mut bytes = io::buffer();
     let b = parse::bytes(line, at, &mut bytes);
     print::worn(book::damaged_card(&bytes[..b.count]));

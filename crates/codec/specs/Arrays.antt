@@ -1,24 +1,16 @@
 -- Arrays of six symbols in code: entry by entry they are the lists of the definitions. Assumes nothing.
--- Main: six, six-map, six-blend, six-difference, six-lower, inner-is.
-use mathlib.Core.Path.{_≡_, refl, sym, ap, ap₂, _∙_}
+-- Main: six-map, six-blend, six-difference, six-lower, inner-is.
+use mathlib.Core.Path.{_≡_, sym, ap, ap₂, _∙_}
 use mathlib.Core.List.{List, [], _∷_, map}
 use Prim.Native.Nat.{ℕ}
 use lib.ListN.{length, getD}
 use Rattle.algebra.specs.Field.{add, minus, times, cube}
-use Rattle.algebra.specs.Digits.{add-comm, add-zero}
-use Rattle.algebra.specs.Lists.{table, table-at}
+use Rattle.algebra.specs.Digits.{add-comm}
 use Rattle.algebra.specs.Polynomials.{lower}
 use Rattle.algebra.specs.Totals.{total}
 use Rattle.rank.specs.Definitions.{at, difference}
+use Rattle.rank.specs.Arrays.{entries, six}
 use Rattle.coding.specs.Cards.{blend}
-
--- A LIST OF SIX is its six entries
-abbrev pub entries : List ℕ → List ℕ
-entries l = getD l 0 0 ∷ getD l 1 0 ∷ getD l 2 0 ∷ getD l 3 0 ∷ getD l 4 0 ∷ getD l 5 0 ∷ []
-
-pub six : (l : List ℕ) → length l ≡ 6 → entries l ≡ l
-unfolding table
-six l h = ap (λ (n : ℕ). table n (λ i. getD l i 0)) (sym h) ∙ table-at l
 
 module _ (c d : List ℕ) (k : length c ≡ 6) (l : length d ≡ 6) where
   pub six-blend : (e : ℕ) → blend e (entries c) (entries d) ≡ blend e c d

@@ -9,5 +9,6 @@ pub mod Words
 pub mod Messages
 -- Decoding as the code goes
 pub mod Steps
+pub mod Algebra
 -- The starred cases of document 01
 pub mod Cases

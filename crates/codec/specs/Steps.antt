@@ -87,6 +87,13 @@ first-stays f m i (suc n) l h = go (ℕ-discrete i n) (λ k. first-stays f m i n
     go (yes e) r = rw e at h
     go (no d) r = first-suc f n ∙ rw (r (omega arith))
 
+pub first-at : (f : ℕ → Option (List ℕ)) (m : List ℕ) (i n : ℕ) → first-of i f ≡ none → i < n → f i ≡ some m → first-of n f ≡ some m
+first-at f m i n e l h = first-stays f m i n l (first-here f m i e h)
+
+pub first-next : (f : ℕ → Option (List ℕ)) (i : ℕ) → first-of i f ≡ none → f i ≡ none → first-of (i + 1) f ≡ none
+unfolding first-of or-else
+first-next f i e h = rw (add-one i, e, h)
+
 -- THE FREE COLUMNS are the first n of an array
 pub taken-long : (n : ℕ) (fs : List ℕ) → length fs ≡ 6 → n ≤ 6 → length (take n fs) ≡ n
 taken-long n fs l h = length-take-le n fs (omega arith)
@@ -120,8 +127,7 @@ module _ (f : State → Option (List ℕ)) (c w : List ℕ) (a need : ℕ) (fs :
   try i = search-from f c (drop (a + 1) w) (need - 1) fs (step c (minus (getD w a 0) (combination fs i)) s)
 
   pub search-next : (i : ℕ) → first-of i try ≡ none → try i ≡ none → first-of (i + 1) try ≡ none
-  unfolding first-of or-else
-  search-next i e t = rw (add-one i, e, t)
+  search-next = first-next try
 
   module _ (l : length w ≡ 6) (h : a < 6) (b : 0 < need) where
     opened : search-from f c (drop a w) need fs s
@@ -140,7 +146,7 @@ module _ (f : State → Option (List ℕ)) (c w : List ℕ) (a need : ℕ) (fs :
 
     pub search-at : (i : ℕ) → i < 3 ^ length fs → first-of i try ≡ none → (m : List ℕ) → try i ≡ some m → search-from f c (drop a w) need fs s ≡ some m
     unfolding or-else
-    search-at i k e m t = opened ∙ rw (first-stays try m i (3 ^ length fs) k (first-here try m i e t))
+    search-at i k e m t = opened ∙ rw (first-at try m i (3 ^ length fs) e k t)
 
     pub search-free : need < 6 - a → first-of (3 ^ length fs) try ≡ none
         → search-from f c (drop a w) need fs s ≡ search-from f c (drop (a + 1) w) need (getD w a 0 ∷ fs) s

@@ -1,4 +1,5 @@
-// Decoding (document 01: Mend): a search over the columns, each taken as free or in a relation with the free ones before it.
+// Decoding (document 01: Mend): for k = 2 by algebra (algebraic.rt), else by a search over the columns, each taken as free or in a relation
+// with the free ones before it.
 ghost use mathlib.Core.Path.{_≡_};
 ghost use mathlib.Core.Bool.{true, false};
 ghost use mathlib.Core.List.{_∷_, map};
@@ -15,6 +16,7 @@ ghost use Rattle.coding.specs.Decode.{decode, if-near};
 ghost use Rattle.coding.specs.Decoding.{columns-of, leaf};
 ghost use Rattle.codec.specs.Answers.{Decoded};
 ghost use Rattle.codec.specs.Steps.{state, answer, Whole};
+use crate::algebraic::decode_two;
 use crate::encoding::word_of;
 use crate::interpolation::State;
 use crate::interpolation::begun;
@@ -37,7 +39,7 @@ pub struct Found {
     pub distance: u8,
 }
 
-fn nothing() -> Found
+pub(crate) fn nothing() -> Found
     ensures { λ r. ⌜ r .found ≡ false ⌝ }
 {
     Found {
@@ -49,7 +51,7 @@ fn nothing() -> Found
 }
 
 // A message with its word, where that is within the radius of the card.
-fn near(
+pub(crate) fn near(
     card: [u16; 6],
     k: usize,
     message: [u16; 10],
@@ -196,6 +198,9 @@ pub fn decode_with(k: usize, card: [u16; 6], logs: &[u16; 729], powers: &[u16; 7
     requires { ⌜ (1 ≤ k) × (k ≤ 5) × (is-card card ≡ true) × Tables (now logs) (now powers) ⌝ }
     ensures { λ r. ⌜ (answer k r ≡ decode k card) × Whole k card r ⌝ }
 {
+    if k == 2 {
+        return decode_two(card, logs, powers);
+    }
     let from = 6 - (k + (6 - k) / 2);
     search(
         card,

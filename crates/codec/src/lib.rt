@@ -1,4 +1,5 @@
 // The code (document 01: Press, Test, Mend): encoding a message, the test values of a card, and decoding a card to the message near it.
+mod algebraic;
 mod decoding;
 mod encoding;
 mod interpolation;

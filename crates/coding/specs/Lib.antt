@@ -22,5 +22,10 @@ pub mod Traces
 pub mod TestValues
 -- The promises kept
 pub mod Proved
+-- Decoding for k = 2 by algebra
+pub mod Annihilator
+pub mod Algebraic
+pub mod RankOne
+pub mod DecodeTwo
 -- Cards of low rank
 pub mod LowRank

@@ -4,7 +4,7 @@ use mathlib.Core.Path.{_≡_, sym, ap, _∙_}
 use mathlib.Core.Bool.{true}
 use mathlib.Core.Logic.{_↔_}
 use mathlib.Core.List.{List}
-use mathlib.Core.Option.{none, some}
+use mathlib.Core.Option.{Option, none, some}
 use Prim.Native.Nat.{ℕ, _+_, _≤_}
 use native.Mathlib.Decide.{decLe}
 use native.Mathlib.Omega.{arith}
@@ -14,7 +14,7 @@ use Rattle.coding.specs.Promise.{One-near, Far-apart, Words-cards, Mu-th
 use Rattle.algebra.specs.Tests.{passed}
 use Rattle.rank.specs.Distance.{apart-sym, apart-triangle}
 use Rattle.coding.specs.Coefficients.{word-card}
-use Rattle.coding.specs.Decode.{decode, decode-answers, answer-near, answer-none, none-answer, near-answer, same-answer}
+use Rattle.coding.specs.Decode.{Answers, decode, decode-answers, answer-near, answer-none, none-answer, near-answer, same-answer}
 use Rattle.coding.specs.Decoding.{same-message, search, search-answers}
 use Rattle.coding.specs.WordSpectrum.{message-of, is-message-of, message-of-word, word-shaped, shaped-word}
 use Rattle.coding.specs.Mu.{mu, mu-is, mu-alone}
@@ -51,8 +51,11 @@ module _ (k : ℕ) (p : 1 ≤ k) (q : k ≤ 5) (c : List ℕ) (card : is-card c 
   pub decoded : (m : List ℕ) → (decode k c ≡ some m) ↔ Near k c m
   decoded m = (answer-near (decode-answers k c), near-answer near-one (decode-answers k c))
 
+  pub answered : (o : Option (List ℕ)) → Answers k c o → o ≡ decode k c
+  answered o a = same-answer near-one o (decode k c) a (decode-answers k c)
+
   pub searched : search k c ≡ decode k c
-  searched = same-answer near-one (search k c) (decode k c) (search-answers k p q c card) (decode-answers k c)
+  searched = answered (search k c) (search-answers k p q c card)
 
 pub decode-none : (k : ℕ) (c : List ℕ) → (decode k c ≡ none) ↔ ((m : List ℕ) → Near k c m → ⊥)
 decode-none k c = (answer-none (decode-answers k c), none-answer (decode-answers k c))

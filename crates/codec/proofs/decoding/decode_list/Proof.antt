@@ -2,7 +2,7 @@
 use native.Mathlib.Omega.{arith}
 use denote.Ref.{now}
 use borrow.Author.Needs.{needs}
-use Rattle.codec.specs.Arrays.{six}
+use Rattle.rank.specs.Arrays.{six}
 use Rattle.codec.proofs.decoding.decode_list.Statement.{statement}
 use Rattle.codec.proofs.decoding.decode_list.Tie as tie
 

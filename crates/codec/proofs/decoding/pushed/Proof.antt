@@ -4,7 +4,7 @@ use mathlib.Core.List.{List, _∷_}
 use Prim.Native.Nat.{ℕ}
 use native.Mathlib.Omega.{arith}
 use lib.ListN.{take}
-use Rattle.codec.specs.Arrays.{six}
+use Rattle.rank.specs.Arrays.{six}
 use borrow.Author.Needs.{needs}
 use Rattle.codec.proofs.decoding.pushed.Statement.{statement}
 use Rattle.codec.proofs.decoding.pushed.Tie as tie

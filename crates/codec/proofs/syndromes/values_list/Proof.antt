@@ -1,7 +1,7 @@
 -- `codec::syndromes::values_list` meets its contract: six entries are the list. Assumes nothing.
 use borrow.Author.Needs.{needs}
 use denote.Ref.{now}
-use Rattle.codec.specs.Arrays.{six}
+use Rattle.rank.specs.Arrays.{six}
 use Rattle.codec.proofs.syndromes.values_list.Statement.{statement}
 use Rattle.codec.proofs.syndromes.values_list.Tie as tie
 
