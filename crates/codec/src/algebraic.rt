@@ -112,18 +112,10 @@ fn attempt(card: [u16; 6], s: Shared, a: u16, logs: &[u16; 729], powers: &[u16; 
         return nothing();
     }
     let f = middle(s, x, d, n, logs, powers);
-    let message = [
-        a,
-        field::low(f),
-        field::high(f),
-        field::low(field::cube(v)),
-        0,
-        0,
-        0,
-        0,
-        0,
-        0,
-    ];
+    let second = field::low(f);
+    let third = field::high(f);
+    let fourth = field::low(field::cube(v));
+    let message = [a, second, third, fourth, 0, 0, 0, 0, 0, 0];
     near(card, 2, message, logs, powers)
 }
 

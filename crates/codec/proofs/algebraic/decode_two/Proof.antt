@@ -39,7 +39,7 @@ attempt-requires c κs =
     let p = c .before .before in
     let k = p .before .before in
     let s = k .before .before in
-    (c .loop-test .taken, prepared-of (s .args .card) _ _ (k .before .spectrum .ensures) (p .prepare .ensures), s .pre .1)
+    (omega arith, prepared-of (s .args .card) _ _ (k .before .spectrum .ensures) (p .prepare .ensures), s .pre .1)
 
 returns-2 : tie.Need-returns-2 Inv-loop μ-loop
 returns-2 c =
@@ -50,7 +50,7 @@ returns-2 c =
     let found = answer-some 2 _ (c .if2 .taken) in (
       found
           ∙ sym (two-found (s .args .card) (s .pre .0) _ (k .before .spectrum .ensures) _ (k .key-of .ensures) (p .before .if1 .left) (i .before .loop .a) _
-          (i .before .loop .inv .1) (i .loop-test .taken) (sym (c .before .attempt .ensures .0) ∙ found)),
+          (i .before .loop .inv .1) (omega arith) (sym (c .before .attempt .ensures .0) ∙ found)),
       c .before .attempt .ensures .1,
     )
 
