@@ -1,10 +1,9 @@
 -- The thirteen starred cases of document 01 ("Cards to try"): the rows of one table, and its truth against the definitions. Assumes nothing.
 -- Main: cases, cases-hold.
-use mathlib.Core.Path.{_≡_, refl, ap, _∙_}
+use mathlib.Core.Path.{_≡_, refl, _∙_}
 use mathlib.Core.Bool.{true}
 use mathlib.Core.List.{List, [], _∷_, map}
 use Prim.Native.Nat.{ℕ, _+_, _*_, _≤_, _<_}
-use native.Mathlib.Omega.{arith}
 use lib.Dec.{lit≤, lit<}
 use Rattle.algebra.specs.Field.{power, cube, small}
 use Rattle.algebra.specs.Lists.{All}
@@ -12,7 +11,7 @@ use Rattle.algebra.specs.Tests.{any-above}
 use Rattle.algebra.specs.Linear.{computing}
 use Rattle.rank.specs.Definitions.{at, is-card, columns, subtract, pivot, cleared, rank-with, rank-from, rank, apart}
 use Rattle.coding.specs.Code.{inner, inner-sum, value, word-from, word, radius}
-use Rattle.coding.specs.LowRank.{zero-message, zero-word, word-zero, zero-apart, low-rank-zero, low-rank-none}
+use Rattle.coding.specs.LowRank.{zero-word, word-zero, zero-apart, low-rank-zero, low-rank-none}
 use Rattle.codec.specs.Answers.{k-bad, tests, undecodable, found, decode-tests, decode-refusal, decoded-word}
 
 -- A CASE: symbol 3 to some powers; a cube; small numbers as symbols; a message and its word; a card and the word and rank it is decoded to;

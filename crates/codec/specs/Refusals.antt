@@ -2,7 +2,7 @@
 -- Main: k-good, encode-passed, syndrome-passed, decode-passed, encoded-refused, encoded-done, tested-refused, tested-done, decoded-refused,
 -- decoded-none, decoded-done.
 use mathlib.Core.Path.{_≡_, refl, sym}
-use mathlib.Core.Bool.{Bool, true, false, _&&_, not, true≢false}
+use mathlib.Core.Bool.{Bool, true, false, _&&_, not}
 use mathlib.Core.List.{List}
 use mathlib.Core.Option.{none, some}
 use Prim.Native.Nat.{ℕ, _*_, _-_, _≤_}

@@ -7,7 +7,7 @@ ghost use Prim.Native.Nat.{_+_, _*_, _-_, _/_, _^_, _<_, _≤_};
 ghost use lib.ListN.{length, take, drop};
 ghost use Rattle.algebra.specs.Field.{minus, cube};
 ghost use Rattle.algebra.specs.Linear.{combination};
-ghost use Rattle.rank.specs.Definitions.{apart, is-card};
+ghost use Rattle.rank.specs.Definitions.{is-card};
 ghost use Rattle.field.specs.Tables.{Tables};
 ghost use Rattle.coding.specs.Interpolation.{step};
 ghost use Rattle.coding.specs.Search.{search-from};

@@ -1,7 +1,6 @@
 -- `capi::lucetcoral_read_card` meets its contract: the strike is given exactly where there is no refusal. Assumes nothing.
 use borrow.Author.Needs.{needs}
 use mathlib.Core.Path.{_≡_, sym, ap, _∙_}
-use denote.Ref.{now}
 use Rattle.book.specs.Reading.{Spoken, reading}
 use Rattle.capi.specs.Calls.{kept-none, kept-same}
 use Rattle.capi.proofs.lucetcoral_read_card.Statement.{statement}

@@ -1,5 +1,5 @@
 -- `codec::decoding::leaf_of` meets its contract: the word of the state is far, or `near` decides of its message. Assumes nothing.
-use mathlib.Core.Path.{_≡_, sym, ap, _∙_}
+use mathlib.Core.Path.{sym, ap, _∙_}
 use mathlib.Core.List.{List}
 use Prim.Native.Nat.{ℕ}
 use native.Mathlib.Omega.{arith}

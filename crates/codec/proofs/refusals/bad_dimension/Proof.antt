@@ -1,5 +1,4 @@
 -- `codec::refusals::bad_dimension` meets its contract: each test decides one of the two bounds. Assumes nothing.
-use native.Mathlib.Omega.{arith}
 use borrow.Author.Tests.{le-leb, lt-leb}
 use Rattle.codec.specs.Answers.{k-bad}
 use Rattle.codec.proofs.refusals.bad_dimension.Statement.{statement}

@@ -1,5 +1,4 @@
 -- `codec::syndromes::syndrome` meets its contract: the tests decide, and then the list is filled with the test values. Assumes nothing.
-use mathlib.Core.Path.{_∙_}
 use Prim.Native.Nat.{_*_, _-_}
 use native.Mathlib.Omega.{arith}
 use lib.ListN.{length}
