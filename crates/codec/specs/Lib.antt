@@ -1,4 +1,4 @@
--- Encoding, testing and decoding in code: what the operations answer, and what the code's values stand for. In reading order.
+-- Encoding and testing in code: what the operations on cards answer, and what the code's values stand for. In reading order.
 -- What the operations answer
 pub mod Answers
 pub mod Refusals
@@ -7,8 +7,5 @@ pub mod Filling
 pub mod Arrays
 pub mod Words
 pub mod Messages
--- Decoding as the code goes
-pub mod Steps
-pub mod Algebra
 -- The starred cases of document 01
 pub mod Cases

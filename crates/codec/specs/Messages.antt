@@ -37,22 +37,6 @@ spectrum-is c r₀ r₁ r₂ r₃ r₄ r₅ e₀ e₁ e₂ e₃ e₄ e₅ =
     cons (e₀ ∙ spectrum-at c 0) (cons (e₁ ∙ spectrum-at c 1) (cons (e₂ ∙ spectrum-at c 2) (cons (e₃ ∙ spectrum-at c 3) (cons (e₄ ∙ spectrum-at c 4)
     (cons (e₅ ∙ spectrum-at c 5) refl)))))
 
--- THE MESSAGE read off a spectrum r: the high part of R(k) stands in the last of the first 2k places
-unfoldable pub message-places : (r : List ℕ) → List ℕ
-message-places r =
-    low (getD r 0 0) ∷ low (getD r 1 0) ∷ high (getD r 1 0) ∷ low (getD r 2 0) ∷ high (getD r 2 0) ∷ low (getD r 3 0) ∷ high (getD r 3 0)
-    ∷ low (getD r 4 0) ∷ high (getD r 4 0) ∷ high (getD r 5 0) ∷ []
-
-message-table : (k : ℕ) → 1 ≤ k → k ≤ 5 → (f : ℕ → ℕ)
-    → take (2 * k) (set (message-places (table 6 f)) (2 * k - 1) (high (getD (table 6 f) k 0))) ≡ read (table (suc k) f)
-unfolding message-places table read read-higher
-message-table = one-to-five _ (λ f. refl) (λ f. refl) (λ f. refl) (λ f. refl) (λ f. refl)
-
-pub message-array : (k : ℕ) → 1 ≤ k → k ≤ 5 → (w r ms : List ℕ) (top : ℕ) → r ≡ table 6 (spectrum w) → ms ≡ message-places r → top ≡ high (getD r k 0)
-    → take (2 * k) (set ms (2 * k - 1) top) ≡ message-of k w
-unfolding message-of
-message-array k p q w r ms top e m t = rw (m, t, e) (message-table k p q (spectrum w))
-
 -- TRACES as small numbers are linear
 trace-fixed : (v : ℕ) → risen 3 (trace v) ≡ trace v
 unfolding computing trace

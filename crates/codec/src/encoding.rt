@@ -47,7 +47,12 @@ fn pair(c: u16, d: u16, logs: &[u16; 729], powers: &[u16; 728]) -> u16
 }
 
 // The word of the message that the first 2k numbers of m are.
-pub(crate) fn word_of(k: usize, m: [u16; 10], logs: &[u16; 729], powers: &[u16; 728]) -> [u16; 6]
+pub(crate) fn word_of_with(
+    k: usize,
+    m: [u16; 10],
+    logs: &[u16; 729],
+    powers: &[u16; 728],
+) -> [u16; 6]
     requires { ⌜ (1 ≤ k) × (k ≤ 5) × Tables (now logs) (now powers) ⌝ }
     ensures { λ r. ⌜ r ≡ word k (take (2 * k) m) ⌝ }
 {
@@ -63,6 +68,15 @@ pub(crate) fn word_of(k: usize, m: [u16; 10], logs: &[u16; 729], powers: &[u16; 
     blend(top(m[2 * k - 1], logs, powers), w, rows[k], logs, powers)
 }
 
+pub fn word_of(k: usize, m: [u16; 10]) -> [u16; 6]
+    requires { ⌜ (1 ≤ k) × (k ≤ 5) ⌝ }
+    ensures { λ r. ⌜ r ≡ word k (take (2 * k) m) ⌝ }
+{
+    let logs = field::logs();
+    let powers = field::powers();
+    word_of_with(k, m, &logs, &powers)
+}
+
 // Document 01: Press. Fills the word of a message for k.
 pub fn encode(k: u32, message: &[u16], word: &mut [u16]) -> Outcome
     ensures { λ r. ⌜ Encoded k (now (message .entry)) (now (word .entry)) r (now (word .exit)) ⌝ }
@@ -73,7 +87,7 @@ pub fn encode(k: u32, message: &[u16], word: &mut [u16]) -> Outcome
     }
     let logs = field::logs();
     let powers = field::powers();
-    let w = word_of(k as usize, loaded(message), &logs, &powers);
+    let w = word_of_with(k as usize, loaded(message), &logs, &powers);
     fill(word, &w);
     Outcome::Done
 }

@@ -1,16 +1,15 @@
-// The code (document 01: Press, Test, Mend): encoding a message, the test values of a card, and decoding a card to the message near it.
-mod algebraic;
-mod decoding;
+// The code (document 01: Press, Test, Mend): encoding a message, the test values of a card, its spectrum, and the tests that all operations on
+// cards begin with. Decoding stands in a crate above.
 mod encoding;
-mod interpolation;
 mod lists;
 mod refusals;
-mod spectrum;
+mod spectra;
 mod syndromes;
 mod vectors;
 
-pub use decoding::Found;
-pub use decoding::decode;
-pub use decoding::decode_with;
 pub use encoding::encode;
+pub use encoding::word_of;
+pub use lists::fill;
+pub use refusals::decode_tests;
+pub use spectra::spectrum;
 pub use syndromes::syndrome;

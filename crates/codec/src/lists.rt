@@ -18,7 +18,7 @@ pub(crate) fn loaded(list: &[u16]) -> [u16; 10]
 }
 
 // The list gets the first entries of another.
-pub(crate) fn fill(list: &mut [u16], from: &[u16])
+pub fn fill(list: &mut [u16], from: &[u16])
     requires { ⌜ length (now list) ≤ length (now from) ⌝ }
     ensures { λ _. ⌜ now (list .exit) ≡ take (length (now (list .entry))) (now (from .entry)) ⌝ }
 {

@@ -55,7 +55,7 @@ pub(crate) fn syndrome_tests(k: u32, card: &[u16], room: usize) -> Outcome
 }
 
 // The tests of decode, but for the last, which is the search itself.
-pub(crate) fn decode_tests(k: u32, card: &[u16], word: usize, message: usize) -> Outcome
+pub fn decode_tests(k: u32, card: &[u16], word: usize, message: usize) -> Outcome
     ensures { λ r. ⌜ outcome r ≡ decode-tests k (now (card .entry)) word message ⌝ }
 {
     if bad_dimension(k) {

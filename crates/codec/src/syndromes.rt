@@ -10,7 +10,7 @@ ghost use Rattle.coding.specs.Mu.{mu};
 ghost use Rattle.codec.specs.Answers.{Tested};
 use crate::lists::fill;
 use crate::refusals::syndrome_tests;
-use crate::spectrum::spectrum;
+use crate::spectra::spectrum_with;
 use refusal::Outcome;
 
 // xi and its 3^j-th powers, and gamma's.
@@ -37,7 +37,7 @@ fn weighted(k: usize, c: [u16; 6], logs: &[u16; 729], powers: &[u16; 728]) -> [u
     requires { ⌜ (1 ≤ k) × (k ≤ 5) × Tables (now logs) (now powers) ⌝ }
     ensures { λ r. ⌜ r ≡ table 6 (λ i. P i (mu k) c) ⌝ }
 {
-    let r = spectrum(c, logs, powers);
+    let r = spectrum_with(c, logs, powers);
     let xi = XI;
     let n = 6 - k;
     [

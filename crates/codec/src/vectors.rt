@@ -1,8 +1,6 @@
 // Six symbols at a time. Products go through lent tables.
 ghost use mathlib.Core.Path.{_≡_};
-ghost use mathlib.Core.List.{map};
-ghost use Rattle.algebra.specs.Field.{add, times, cube};
-ghost use Rattle.rank.specs.Definitions.{difference};
+ghost use Rattle.algebra.specs.Field.{add, times};
 ghost use Rattle.field.specs.Tables.{Tables};
 ghost use Rattle.coding.specs.Cards.{blend};
 ghost use Rattle.codec.specs.Arrays.{inner-product};
@@ -47,30 +45,4 @@ pub(crate) fn inner_product(c: [u16; 6], d: [u16; 6], logs: &[u16; 729], powers:
     let s2 = plus_multiple(c[2], s3, d[2], logs, powers);
     let s1 = plus_multiple(c[1], s2, d[1], logs, powers);
     plus_multiple(c[0], s1, d[0], logs, powers)
-}
-
-pub(crate) fn difference(c: [u16; 6], d: [u16; 6]) -> [u16; 6]
-    ensures { λ r. ⌜ r ≡ difference c d ⌝ }
-{
-    [
-        field::difference(c[0], d[0]),
-        field::difference(c[1], d[1]),
-        field::difference(c[2], d[2]),
-        field::difference(c[3], d[3]),
-        field::difference(c[4], d[4]),
-        field::difference(c[5], d[5]),
-    ]
-}
-
-pub(crate) fn cubes(m: [u16; 6]) -> [u16; 6]
-    ensures { λ r. ⌜ r ≡ map cube m ⌝ }
-{
-    [
-        field::cube(m[0]),
-        field::cube(m[1]),
-        field::cube(m[2]),
-        field::cube(m[3]),
-        field::cube(m[4]),
-        field::cube(m[5]),
-    ]
 }

@@ -22,42 +22,19 @@ use Rattle.rank.specs.Distance.{apart-sym}
 use Rattle.coding.specs.Code.{inner, word, is-message, radius, Near}
 use Rattle.coding.specs.Coefficients.{inners, higher, coefficients, word-images, read, read-higher, read-coefficients}
 use Rattle.coding.specs.Spectrum.{spectrum, images-spectrum}
-use Rattle.coding.specs.Annihilator.{Annihilated, annihilated}
-
--- THE ERROR'S COEFFICIENTS, if m was meant
-unfoldable pub errors : (r : ℕ → ℕ) → (m : List ℕ) → ℕ → ℕ
-errors r m i =
-    at (minus (r 0) (small (at m 0)) ∷ minus (r 1) (pair (at m 1) (at m 2)) ∷ minus (r 2) (times gamma (small (at m 3))) ∷ r 3 ∷ r 4 ∷ r 5 ∷ []) i
-
-ev-errors : (r : ℕ → ℕ) (f g h y : ℕ) → ev (minus (r 0) f ∷ minus (r 1) g ∷ minus (r 2) h ∷ r 3 ∷ r 4 ∷ r 5 ∷ []) y ≡ minus (ev (table 6 r) y) (ev (f ∷ g ∷ h ∷ []) y)
-unfolding ev table
-ev-errors r f g h y = simp ring
-
-module _ (c : List ℕ) (card : is-card c ≡ true) (m : List ℕ) (near : Near 2 c m) where
-  card-is : images (ev (table 6 (spectrum c))) ≡ c
-  unfolding at
-  card-is = images-spectrum c (table 6 (spectrum c)) card (omega (arith, length-table 6 (spectrum c))) (at-table 6 (spectrum c))
-
-  error-values : images (ev (table 6 (errors (spectrum c) m))) ≡ difference c (word 2 m)
-  unfolding difference errors table at coefficients higher inners inner pair
-  error-values =
-      ap images (fun-ext (ev-errors (spectrum c) (small (at m 0)) (inner m 1) (times gamma (small (at m 3)))))
-      ∙ ap₂ difference card-is (sym (word-images 2 (lit≤ tt) m))
-
-  pub near-annihilated : Annihilated (errors (spectrum c) m)
-  unfolding apart radius
-  near-annihilated = annihilated (errors (spectrum c) m) (rw error-values (omega (arith, near .within, apart-sym c (word 2 m))))
+use Rattle.coding.specs.Errors.{errors, errors-beyond}
+use Rattle.coding.specs.Annihilator.{Annihilated, near-annihilated}
 
 -- TWO EQUATIONS FOR L1 AND L0, solved up to their determinant
 module _ (b₃ c₄ e₅ b₄ c₅ e₀ L1 L0 : ℕ) (p : add b₃ (add (times L1 c₄) (times L0 e₅)) ≡ 0) (q : add b₄ (add (times L1 c₅) (times L0 e₀)) ≡ 0) where
-  solved-1 : times (minus (times c₄ e₀) (times e₅ c₅)) L1 ≡ minus (times b₄ e₅) (times b₃ e₀)
+  pub solved-1 : times (minus (times c₄ e₀) (times e₅ c₅)) L1 ≡ minus (times b₄ e₅) (times b₃ e₀)
   solved-1 = before ∙ rw (p, q) (simp ring)
     where
       before : times (minus (times c₄ e₀) (times e₅ c₅)) L1
           ≡ add (minus (times b₄ e₅) (times b₃ e₀)) (minus (times (add b₃ (add (times L1 c₄) (times L0 e₅))) e₀) (times (add b₄ (add (times L1 c₅) (times L0 e₀))) e₅))
       before = simp ring
 
-  solved-0 : times (minus (times c₄ e₀) (times e₅ c₅)) L0 ≡ minus (times b₃ c₅) (times b₄ c₄)
+  pub solved-0 : times (minus (times c₄ e₀) (times e₅ c₅)) L0 ≡ minus (times b₃ c₅) (times b₄ c₄)
   solved-0 = before ∙ rw (p, q) (simp ring)
     where
       before : times (minus (times c₄ e₀) (times e₅ c₅)) L0
@@ -65,7 +42,7 @@ module _ (b₃ c₄ e₅ b₄ c₅ e₀ L1 L0 : ℕ) (p : add b₃ (add (times L
       before = simp ring
 
 -- and so another equation without them
-without : (D N K L1 L0 b c e : ℕ) → times D L1 ≡ N → times D L0 ≡ K → add b (add (times L1 c) (times L0 e)) ≡ 0
+pub without : (D N K L1 L0 b c e : ℕ) → times D L1 ≡ N → times D L0 ≡ K → add b (add (times L1 c) (times L0 e)) ≡ 0
     → add (times D b) (add (times N c) (times K e)) ≡ 0
 without D N K L1 L0 b c e n k q = rw (← n, ← k) (before ∙ rw q (times-zero D))
   where
@@ -126,7 +103,7 @@ last-step D N K b c e r f n q h =
     after : add (times D (times 684 (minus 0 b))) (times 684 0) ≡ times D (times 684 (minus 0 b))
     after = simp ring
 
-middle-step : (D N K b c e r f : ℕ) → ¬ Zero K → add (times D b) (add (times N c) (times K e)) ≡ 0 → e ≡ minus r f
+pub middle-step : (D N K b c e r f : ℕ) → ¬ Zero K → add (times D b) (add (times N c) (times K e)) ≡ 0 → e ≡ minus r f
     → add r (times (inverse K) (add (times b D) (times N c))) ≡ f % 729
 middle-step D N K b c e r f n q h =
     ap (λ (x : ℕ). add r (times (inverse K) x)) (before ∙ rw q after) ∙ ap (add r) (divide K (minus 0 e) n) ∙ rw h (simp ring)
@@ -158,25 +135,31 @@ module _ (c : List ℕ) (card : is-card c ≡ true) (m : List ℕ) (near : Near 
   abbrev r : ℕ → ℕ
   r = spectrum c
 
+  abbrev e : ℕ → ℕ
+  e = errors 2 c m
+
   abbrev x : ℕ
   x = first-error r (at m 0)
 
-  abbrev A : Annihilated (errors r m)
-  A = near-annihilated c card m near
+  abbrev A : Annihilated e
+  A = near-annihilated 2 (lit≤ tt) (lit≤ tt) c card m near
+
+  beyond : (i : ℕ) → 2 < i → e i ≡ r i
+  beyond = errors-beyond 2 (lit≤ tt) (lit≤ tt) c card m
 
   key-det : times (det r x) (A .L0) ≡ key r
-  unfolding det key first-error errors at
-  key-det = key-times A
+  unfolding det key first-error errors coefficients at
+  key-det = rw (beyond 3 (lit< tt), beyond 4 (lit< tt), beyond 5 (lit< tt)) at (key-times A)
 
   numerator-det : times (det r x) (A .L1) ≡ numerator r x
-  unfolding det numerator first-error errors at
-  numerator-det = numerator-times A
+  unfolding det numerator first-error errors coefficients at
+  numerator-det = rw (beyond 3 (lit< tt), beyond 4 (lit< tt), beyond 5 (lit< tt)) at (numerator-times A)
 
   pub first-below : at m 0 < 27
   unfolding is-message at
   first-below = let (l, b) = passed 4 26 m (near .message) in all-at (λ v. v < 27) 0 m b 0 (omega arith)
 
-  pub message-read : low (small (at m 0)) ∷ low (inner m 1) ∷ high (inner m 1) ∷ high (times gamma (small (at m 3))) ∷ [] ≡ m
+  message-read : low (small (at m 0)) ∷ low (inner m 1) ∷ high (inner m 1) ∷ high (times gamma (small (at m 3))) ∷ [] ≡ m
   unfolding coefficients higher inners read read-higher
   message-read = read-coefficients 2 (lit≤ tt) (lit≤ tt) m (near .message)
 
@@ -185,17 +168,17 @@ module _ (c : List ℕ) (card : is-card c ≡ true) (m : List ℕ) (near : Near 
     det-unit z = n (ap (λ (v : ℕ). v % 729) (sym key-det ∙ zero-factor (det r x) (A .L0) z))
 
     ninth-is : ninth r x ≡ cube (cube (small (at m 3)))
-    unfolding ninth errors at
+    unfolding ninth errors coefficients higher inners at
     ninth-is =
         last-step (det r x) (numerator r x) (key r) _ (cube (r 3)) (r 4) (cube (cube (r 2))) (cube (cube (times gamma (small (at m 3))))) det-unit
-        (without _ _ _ (A .L1) (A .L0) _ _ _ numerator-det key-det (A .equation 4 (lit< tt))) (simp cube-minus)
+        (without _ _ _ (A .L1) (A .L0) _ _ _ numerator-det key-det (rw (beyond 3 (lit< tt), beyond 4 (lit< tt)) at (A .equation 4 (lit< tt)))) (simp cube-minus)
         ∙ ninth-last (at m 3)
 
     middle-is : middle r x ≡ inner m 1
-    unfolding middle first-error errors at inner pair
+    unfolding middle first-error errors coefficients higher inners at inner
     middle-is =
         middle-step (det r x) (numerator r x) (key r) (cube (cube (r 5))) (cube x) _ (r 1) (inner m 1) n
-        (without _ _ _ (A .L1) (A .L0) _ _ _ numerator-det key-det (A .equation 1 (lit< tt))) refl
+        (without _ _ _ (A .L1) (A .L0) _ _ _ numerator-det key-det (rw (beyond 5 (lit< tt)) at (A .equation 1 (lit< tt)))) refl
         ∙ add-whole _ _
 
     -- A MESSAGE NEAR THE CARD is the one proposed for its first number

@@ -1,7 +1,8 @@
 -- Errors of rank at most 2: the values of their polynomial are zeros of one polynomial y⁹ + L1 y³ + L0 y with L0 not 0, so its six
 -- coefficients satisfy six equations. Assumes nothing.
--- Main: Annihilated, annihilated.
+-- Main: Annihilated, annihilated, near-annihilated.
 use mathlib.Core.Path.{_≡_, refl, sym, ap, _∙_, fun-ext}
+use mathlib.Core.Bool.{true}
 use mathlib.Core.List.{List, [], _∷_, map}
 use Prim.Native.Nat.{ℕ, suc, _+_, _%_, _≤_, _<_}
 use native.Mathlib.Nat.{mod-eq-of-lt}
@@ -17,9 +18,11 @@ use Rattle.algebra.specs.Linear.{Linear, at-zero, at-rest, at-combine, composed
 use Rattle.algebra.specs.Products.{ring, cube-linear, cube-times, risen-six}
 use Rattle.algebra.specs.Inverses.{times-not-zero}
 use Rattle.algebra.specs.Polynomials.{ev, ev-linear, lower, lower-linear, lower-self, lower-zeros}
-use Rattle.rank.specs.Definitions.{at, rank}
+use Rattle.rank.specs.Definitions.{at, is-card, rank}
 use Rattle.rank.specs.Echelon.{rank-echelon}
+use Rattle.coding.specs.Code.{radius, Near}
 use Rattle.coding.specs.Spectrum.{spectrum, spectrum-images}
+use Rattle.coding.specs.Errors.{errors, near-rank}
 
 -- THE ANNIHILATOR y⁹ + L1 y³ + L0 y: two steps y³ - A y and y³ - B y
 unfoldable annihilator : (L1 L0 y : ℕ) → ℕ
@@ -33,7 +36,7 @@ unfolding lower annihilator
 factored A B y = simp (cube-add, cube-times, ring)
 
 -- what is 0 at some symbols is 0 on their span
-on-span : {f : ℕ → ℕ} → Linear f → (ps : List ℕ) → All (λ p. f p ≡ 0) ps → (v : ℕ) → Span ps v → f v ≡ 0
+pub on-span : {f : ℕ → ℕ} → Linear f → (ps : List ℕ) → All (λ p. f p ≡ 0) ps → (v : ℕ) → Span ps v → f v ≡ 0
 unfolding combine
 on-span {f} l ps h v s = sym (at-rest l v) ∙ ap f (s .same) ∙ at-combine l (s .by) ps ∙ go (s .by) ps h
   where
@@ -88,7 +91,7 @@ moved-on : (a b c d e f y : ℕ) → cube (ev (a ∷ b ∷ c ∷ d ∷ e ∷ f �
 unfolding ev
 moved-on a b c d e f y = simp (cube-add, cube-times, cube-six, ring)
 
-cubed : (e : ℕ → ℕ) (y : ℕ) → cube (ev (table 6 e) y) ≡ ev (table 6 (λ i. cube (e ((i + 5) % 6)))) y
+pub cubed : (e : ℕ → ℕ) (y : ℕ) → cube (ev (table 6 e) y) ≡ ev (table 6 (λ i. cube (e ((i + 5) % 6)))) y
 unfolding table
 cubed e y = moved-on (e 0) (e 1) (e 2) (e 3) (e 4) (e 5) y
 
@@ -107,7 +110,7 @@ annihilated-ev L1 L0 e y =
     rw (cubed e y, cubed (λ i. cube (e ((i + 5) % 6))) y) (collected L1 L0 y (λ i. cube (cube (e ((i + 4) % 6)))) (λ i. cube (e ((i + 5) % 6))) e)
 
 -- A POLYNOMIAL THAT IS 0 EVERYWHERE has no coefficients
-none-everywhere : (e : ℕ → ℕ) → ((y : ℕ) → ev (table 6 e) y ≡ 0) → (i : ℕ) → i < 6 → Zero (e i)
+pub none-everywhere : (e : ℕ → ℕ) → ((y : ℕ) → ev (table 6 e) y ≡ 0) → (i : ℕ) → i < 6 → Zero (e i)
 unfolding ev at
 none-everywhere e z i h =
     ap (λ (x : ℕ). x % 729) (sym (at-table 6 e i h))
@@ -136,3 +139,8 @@ annihilated e r =
       equation = λ i h. sym (add-whole _ _) ∙ none-everywhere _
           (λ y. sym (annihilated-ev _ _ e y) ∙ sym (factored (s .A) (s .B) (ev (table 6 e) y)) ∙ s .none _ (value y)) i h;
     }
+
+-- they hold of the error of a card, if a message near it was meant
+pub near-annihilated : (k : ℕ) → 1 ≤ k → k ≤ 5 → (c : List ℕ) → is-card c ≡ true → (m : List ℕ) → Near k c m → Annihilated (errors k c m)
+unfolding radius
+near-annihilated k p q c card m near = annihilated (errors k c m) (omega (arith, near-rank k p q c card m near))

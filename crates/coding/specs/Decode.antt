@@ -1,6 +1,6 @@
 -- What mending answers: decode is the first message near a card, among all. It says what the answer is, and is never computed. Assumes
 -- nothing.
--- Main: decode, Answers, decode-answers, near-answer, same-answer.
+-- Main: decode, Answers, decode-answers, proposal-answers, proposals-answer, near-answer, same-answer.
 use mathlib.Core.Path.{_≡_, refl, sym, ap}
 use mathlib.Core.Bool.{Bool, true, false, _&&_, cond}
 use mathlib.Core.List.{List, [], _∷_}
@@ -14,7 +14,7 @@ use Rattle.coding.specs.Code.{word, is-message, radius, Near}
 use Rattle.rank.specs.Definitions.{apart}
 use Rattle.algebra.specs.Lists.{All}
 use Rattle.algebra.specs.Tests.{both, passed}
-use Rattle.coding.specs.Options.{first-of, Good, good-first, Got, got-first}
+use Rattle.coding.specs.Options.{first-of, Good, good-if, good-first, Got, got-if, got-first}
 
 -- THE TEST of a message
 unfoldable pub is-near : (k : ℕ) → (card m : List ℕ) → Bool
@@ -65,6 +65,21 @@ unfolding decode is-message
 decode-answers k c = record {
   right = find-good (Near k c) (2 * k) (if-near k c) (if-near-good k c);
   all = λ m h. let t = passed (2 * k) 26 m (h .message) in find-got (2 * k) (if-near k c) m (t .0) (t .1) (if-near-got k c m h);
+}
+
+-- one proposal held to the card is an answer, if it is every message near the card
+pub proposal-answers : (k : ℕ) (c m : List ℕ) → ((w : List ℕ) → Near k c w → m ≡ w) → Answers k c (if-near k c m)
+proposal-answers k c m h = record { right = if-near-good k c m; all = λ w near. rw (h w near) (if-near-got k c w near) }
+
+-- and so are proposals for n numbers, each tested first, if every message near the card is the one for its own number
+pub proposals-answer : (k : ℕ) (c : List ℕ) (n : ℕ) (test : ℕ → Bool) (proposal : ℕ → List ℕ) (number : List ℕ → ℕ)
+    → ((w : List ℕ) → Near k c w → (number w < n) × (test (number w) ≡ true) × (proposal (number w) ≡ w))
+    → Answers k c (first-of n (λ a. cond (test a) (if-near k c (proposal a)) none))
+proposals-answer k c n test proposal number h = record {
+  right = good-first (Near k c) n _ (λ a. good-if (Near k c) (if-near k c (proposal a)) (test a) (if-near-good k c (proposal a)));
+  all = λ w near.
+      let (l, t, e) = h w near in
+      got-first n (number w) _ l (got-if (if-near k c (proposal (number w))) (test (number w)) t (rw e (if-near-got k c w near)));
 }
 
 module _ {k : ℕ} {c : List ℕ} where

@@ -22,10 +22,14 @@ pub mod Traces
 pub mod TestValues
 -- The promises kept
 pub mod Proved
--- Decoding for k = 2 by algebra
+-- Decoding by algebra: the error's coefficients
+pub mod Errors
 pub mod Annihilator
 pub mod Algebraic
 pub mod RankOne
+pub mod Clean
+pub mod DecodeSingle
 pub mod DecodeTwo
+pub mod DecodeOne
 -- Cards of low rank
 pub mod LowRank

@@ -1,36 +1,46 @@
--- Decoding for k = 2 where the key is 0: the error has rank 1 or none, each coefficient's cube is the same multiple of the next, and so the
--- message near the card is computed from the card's spectrum alone. Assumes nothing.
--- Main: next-error, single, near-single.
+-- Errors of rank 1 or none: each coefficient's cube is the same multiple of the next, so two coefficients in a row give all, and the message
+-- is computed from the card's spectrum. Assumes nothing.
+-- Main: next-error, chain, single, Ratio, ratio, chained, near-single, near-key.
 use mathlib.Core.Path.{_≡_, refl, sym, ap, ap₂, _∙_}
 use mathlib.Core.Bool.{true}
 use mathlib.Core.List.{List, [], _∷_}
-use Prim.Native.Nat.{ℕ, _%_, _<_}
+use Prim.Native.Nat.{ℕ, zero, suc, _+_, _%_, _≤_, _<_}
 use native.Mathlib.Decide.{ℕ-discrete}
 use native.Mathlib.Nat.{mod-eq-of-lt}
+use native.Mathlib.Omega.{arith}
 use lib.Dec.{lit<}
-use Rattle.algebra.specs.Field.{add, minus, times, cube, risen, small, gamma}
-use Rattle.algebra.specs.Digits.{add-below}
-use Rattle.algebra.specs.Sums.{Zero, add-whole, minus-none}
-use Rattle.algebra.specs.Linear.{at-zero, at-rest}
-use Rattle.algebra.specs.Products.{ring, products, right, cube-linear, cube-times, times-comm, times-zero, zero-times, times-whole}
+use lib.ListN.{length}
+use Rattle.algebra.specs.Field.{add, minus, times, cube, risen}
+use Rattle.algebra.specs.Lists.{table, table-same, table-at}
+use Rattle.algebra.specs.Tests.{below-six}
+use Rattle.algebra.specs.Digits.{digit}
+use Rattle.algebra.specs.Sums.{Zero, sums, add-whole, minus-none}
+use Rattle.algebra.specs.Combinations.{Span, span-combine, span-trans, span-zero, Independent}
+use Rattle.algebra.specs.Linear.{at-zero, at-rest, combination, expand, images}
+use Rattle.algebra.specs.Products.{ring, products, cube-linear, cube-times, times-comm, times-zero, zero-times, times-whole}
 use Rattle.algebra.specs.Inverses.{inverse, divide, no-divisors, times-not-zero, risen-not-zero}
-use Rattle.algebra.specs.SmallField.{small-linear, low, high, pair}
-use Rattle.rank.specs.Definitions.{at, is-card}
-use Rattle.coding.specs.Code.{inner, Near}
+use Rattle.algebra.specs.Polynomials.{ev, ev-linear, lower, lower-linear, lower-self}
+use Rattle.rank.specs.Definitions.{at, is-card, rank}
+use Rattle.rank.specs.Echelon.{rank-echelon}
+use Rattle.coding.specs.Code.{Near}
+use Rattle.coding.specs.Coefficients.{coefficients, length-coefficients, read, read-coefficients}
 use Rattle.coding.specs.Spectrum.{spectrum}
-use Rattle.coding.specs.Annihilator.{Annihilated}
-use Rattle.coding.specs.Algebraic.{errors, near-annihilated, det, key, key-times, zero-factor, cube-minus, message-read}
+use Rattle.coding.specs.Errors.{errors, errors-beyond, given-back}
+use Rattle.coding.specs.Annihilator.{Annihilated, on-span, cubed, none-everywhere, near-annihilated}
+use Rattle.coding.specs.Algebraic.{det, key, key-times, zero-factor, cube-minus}
 
--- THE NEXT COEFFICIENT of an error of rank 1
-unfoldable pub next-error : (r : ℕ → ℕ) → (x : ℕ) → ℕ
-next-error r x = times (times (r 4) (inverse (cube (r 3)))) (cube x)
+-- THE NEXT COEFFICIENT of an error of rank 1 after x, if v comes after u
+unfoldable pub next-error : (u v x : ℕ) → ℕ
+next-error u v x = times (times v (inverse (cube u))) (cube x)
 
-unfoldable pub single : (r : ℕ → ℕ) → List ℕ
-single r =
-    let e₀ = next-error r (r 5) in
-    let e₁ = next-error r e₀ in
-    let e₂ = next-error r e₁ in
-    low (minus (r 0) e₀) ∷ low (minus (r 1) e₁) ∷ high (minus (r 1) e₁) ∷ high (minus (r 2) e₂) ∷ []
+-- its coefficients from the first on, if the last is v and the one before it u
+unfoldable pub chain : (u v : ℕ) → (i : ℕ) → ℕ
+chain u v zero = next-error u v v
+chain u v (suc i) = next-error u v (chain u v i)
+
+-- THE MESSAGE of a spectrum, if the error has rank 1 or none and its coefficient before the last is u
+unfoldable pub single : (k : ℕ) → (r : ℕ → ℕ) → (u : ℕ) → List ℕ
+single k r u = read (table (suc k) (λ i. minus (r i) (chain u (r 5) i)))
 
 -- cubes of 0 only are 0
 cube-none : (x : ℕ) → Zero (cube x) → Zero x
@@ -40,7 +50,50 @@ cube-none x z = elim (ℕ-discrete (x % 729) 0) [ yes e ↦ e | no n ↦ absurd 
 none-cube : (x : ℕ) → Zero x → cube x ≡ 0
 none-cube x z = sym (at-rest cube-linear x) ∙ ap cube z ∙ at-zero cube-linear
 
--- WHERE E5 IS 0, so are all: an equation with two zeros has a third
+-- EACH CUBE is P times the next coefficient
+pub record Ratio (e : ℕ → ℕ) : Type 0 where
+  pub P : ℕ
+  pub unit : ¬ Zero P
+  pub equation : (i : ℕ) → i < 6 → cube (e ((i + 5) % 6)) ≡ times P (e i)
+
+-- so for errors of rank 1 or none, whose values are zeros of y³ - P y
+record Step (ps : List ℕ) : Type 0 where
+  P : ℕ
+  unit : ¬ Zero P
+  none : (v : ℕ) → Span ps v → lower P v ≡ 0
+
+step : (ps : List ℕ) → length ps ≤ 1 → Independent ps → Step ps
+step [] h i = record { P = 1; unit = λ e. omega arith; none = on-span (lower-linear 1) [] tt }
+step (p ∷ []) h i =
+    let n : ¬ Zero p = λ z. i .0 (span-zero z) in
+    record { P = times p p; unit = times-not-zero p p n n; none = on-span (lower-linear (times p p)) (p ∷ []) (lower-self p, tt) }
+step (p ∷ q ∷ ps) h i = absurd (omega arith)
+
+collected : (P y : ℕ) (a e : ℕ → ℕ) → minus (ev (table 6 a) y) (times P (ev (table 6 e) y)) ≡ ev (table 6 (λ i. minus (a i) (times P (e i)))) y
+unfolding ev table
+collected P y a e = simp ring
+
+lowered-ev : (P : ℕ) (e : ℕ → ℕ) (y : ℕ) → lower P (ev (table 6 e) y) ≡ ev (table 6 (λ i. minus (cube (e ((i + 5) % 6))) (times P (e i)))) y
+unfolding lower
+lowered-ev P e y = rw (cubed e y) (collected P y (λ i. cube (e ((i + 5) % 6))) e)
+
+same-cube : (x a b : ℕ) → Zero (minus (cube x) (times a b)) → cube x ≡ times a b
+same-cube x a b z = sym (mod-eq-of-lt (cube-linear .below x)) ∙ minus-none (cube x) (times a b) z ∙ times-whole a b
+
+pub ratio : (e : ℕ → ℕ) → rank (images (ev (table 6 e))) ≤ 1 → Ratio e
+unfolding combination
+ratio e r =
+    let t = rank-echelon (images (ev (table 6 e))) in
+    let s = step (t .by) (omega (arith, t .count)) (t .free) in
+    let value : (y : ℕ) → Span (t .by) (ev (table 6 e) y) = λ y.
+    rw (expand (ev-linear (table 6 e)) y) (span-trans (t .spans) (span-combine (digit y) (images (ev (table 6 e))))) in
+    record {
+      P = s .P;
+      unit = s .unit;
+      equation = λ i h. same-cube _ _ _ (none-everywhere _ (λ y. sym (lowered-ev (s .P) e y) ∙ s .none _ (value y)) i h);
+    }
+
+-- AND WHERE THE KEY IS 0: if E5 is 0, so are all, as an equation with two zeros has a third
 third-none : (L1 L0 w x y : ℕ) → add (cube (cube w)) (add (times L1 (cube x)) (times L0 y)) ≡ 0 → Zero x → Zero y → Zero w
 third-none L1 L0 w x y q u v = cube-none w (cube-none (cube w) (
     before (cube (cube w)) ∙ ap (add (cube (cube w))) (ap₂ add (sym (ap (times L1) (none-cube x u) ∙ times-zero L1)) (sym (times-comm L0 y ∙ zero-factor y L0 v))) ∙ q))
@@ -48,11 +101,10 @@ third-none L1 L0 w x y q u v = cube-none w (cube-none (cube w) (
     before : (b : ℕ) → b % 729 ≡ add b (add 0 0)
     before b = simp ring
 
--- ELSE each cube is P times the next, for one P
+-- else P is a root, which passes from two coefficients to those before them
 module _ (P L1 L0 : ℕ) (root : add (times P (cube P)) (add (times L1 P) L0) ≡ 0) where
   falls : (a b c : ℕ) → add (cube (cube a)) (add (times L1 (cube b)) (times L0 c)) ≡ 0 → cube b ≡ times P c → cube a ≡ times P b
-  falls a b c q h =
-      sym (mod-eq-of-lt (cube-linear .below a)) ∙ minus-none (cube a) (times P b) (cube-none _ (ap (λ (x : ℕ). x % 729) none)) ∙ times-whole P b
+  falls a b c q h = same-cube a P b (cube-none _ (ap (λ (x : ℕ). x % 729) none))
     where
       gathered : (u v : ℕ) → minus u (times v (times P c)) ≡ minus (add u (add (times L1 (times P c)) (times L0 c))) (times (add (times P v) (add (times L1 P) L0)) c)
       gathered u v = simp ring
@@ -77,18 +129,6 @@ root-is P L1 L0 e₀ e₄ e₅ n q h k =
     zero : add (times (cube P) (cube e₅)) (add (times L1 (cube e₅)) (times L0 e₀)) ≡ 0
     zero = rw (← cube-times P e₅, ← h) q
 
--- the next coefficient, then
-next-is : (e : ℕ → ℕ) (P x y : ℕ) → ¬ Zero (cube (e 3)) → cube (e 3) ≡ times P (e 4) → cube x ≡ times P y → next-error e x ≡ y % 729
-unfolding next-error
-next-is e P x y n h k = rw k (before (e 4) (inverse (cube (e 3))) ∙ rw (← h) (divide (cube (e 3)) y n))
-  where
-    before : (a b : ℕ) → times (times a b) (times P y) ≡ times b (times (times P a) y)
-    before a b = simp products
-
-next-none : (e : ℕ → ℕ) (x y : ℕ) → Zero x → Zero y → next-error e x ≡ y % 729
-unfolding next-error
-next-none e x y u v = ap (times _) (none-cube x u) ∙ times-zero _ ∙ sym v
-
 -- a product of powers of x is 0 for 0 only
 power-none : (b x : ℕ) → minus (times b 0) (times (cube (cube x)) (cube x)) ≡ 0 → Zero x
 unfolding risen
@@ -97,29 +137,27 @@ power-none b x q = elim (ℕ-discrete (x % 729) 0) [
   | no n ↦ absurd (times-not-zero (cube (cube x)) (cube x) (risen-not-zero 2 x n) (risen-not-zero 1 x n) (sym (minus-none (times b 0) _ (ap (λ (y : ℕ). y % 729) q)) ∙ ap (λ (y : ℕ). y % 729) (times-zero b)))
 ]
 
-record Nexts (e : ℕ → ℕ) : Type 0 where
-  zeroth : next-error e (e 5) ≡ e 0 % 729
-  first : next-error e (e 0) ≡ e 1 % 729
-  second : next-error e (e 1) ≡ e 2 % 729
-
 module _ (e : ℕ → ℕ) (A : Annihilated e) (none : key e ≡ 0) where
   det-none : det e (e 0) ≡ 0
   unfolding det minus
   det-none = sym (add-whole _ _) ∙ no-divisors (A .L0) (det e (e 0)) (A .unit) (times-comm (A .L0) _ ∙ key-times A ∙ none)
 
-  nexts-none : Zero (e 5) → Nexts e
+  ratio-none : Zero (e 5) → Ratio e
   unfolding key
-  nexts-none z₅ =
+  ratio-none z₅ =
       let z₄ : Zero (e 4) = power-none (cube (cube (e 3))) (e 4) (ap (λ (c : ℕ). minus (times (cube (cube (e 3))) c) (times (cube (cube (e 4))) (cube (e 4)))) (sym (none-cube (e 5) z₅)) ∙ none) in
       let z₃ = third-none _ _ (e 3) _ _ (A .equation 5 (lit< tt)) z₄ z₅ in
       let z₂ = third-none _ _ (e 2) _ _ (A .equation 4 (lit< tt)) z₃ z₄ in
       let z₁ = third-none _ _ (e 1) _ _ (A .equation 3 (lit< tt)) z₂ z₃ in
       let z₀ = third-none _ _ (e 0) _ _ (A .equation 2 (lit< tt)) z₁ z₂ in
-      record { zeroth = next-none e (e 5) (e 0) z₅ z₀; first = next-none e (e 0) (e 1) z₀ z₁; second = next-none e (e 1) (e 2) z₁ z₂ }
+      record { P = 1; unit = λ u. omega arith; equation = below-six _ (both (e 5) (e 0) z₅ z₀) (both (e 0) (e 1) z₀ z₁) (both (e 1) (e 2) z₁ z₂) (both (e 2) (e 3) z₂ z₃) (both (e 3) (e 4) z₃ z₄) (both (e 4) (e 5) z₄ z₅) }
+    where
+      both : (x y : ℕ) → Zero x → Zero y → cube x ≡ times 1 y
+      both x y u v = none-cube x u ∙ sym (times-comm 1 y ∙ zero-factor y 1 v)
 
-  nexts-some : ¬ Zero (e 5) → Nexts e
+  ratio-some : ¬ Zero (e 5) → Ratio e
   unfolding det risen
-  nexts-some n₅ =
+  ratio-some n₅ =
       let P = times (cube (e 4)) (inverse (e 5)) in
       let c₅ : ¬ Zero (cube (e 5)) = risen-not-zero 1 (e 5) n₅ in
       let h₄ : cube (e 4) ≡ times P (e 5) = sym (over (cube (e 4)) ∙ divide (e 5) (cube (e 4)) n₅ ∙ mod-eq-of-lt (cube-linear .below (e 4))) in
@@ -130,10 +168,7 @@ module _ (e : ℕ → ℕ) (A : Annihilated e) (none : key e ≡ 0) where
       let h₂ = f (e 2) (e 3) (e 4) (A .equation 4 (lit< tt)) h₃ in
       let h₁ = f (e 1) (e 2) (e 3) (A .equation 3 (lit< tt)) h₂ in
       let h₀ = f (e 0) (e 1) (e 2) (A .equation 2 (lit< tt)) h₁ in
-      let p : ¬ Zero P = λ z. c₅ (ap (λ (x : ℕ). x % 729) (h₅ ∙ zero-factor P (e 0) z)) in
-      let n₄ : ¬ Zero (e 4) = λ z. p (ap (λ (x : ℕ). times x (inverse (e 5)) % 729) (none-cube (e 4) z) ∙ ap (λ (x : ℕ). x % 729) (zero-times (inverse (e 5)))) in
-      let n₃ : ¬ Zero (cube (e 3)) = λ z. times-not-zero P (e 4) p n₄ (ap (λ (x : ℕ). x % 729) (sym h₃) ∙ z) in
-      record { zeroth = next-is e P (e 5) (e 0) n₃ h₃ h₅; first = next-is e P (e 0) (e 1) n₃ h₃ h₀; second = next-is e P (e 1) (e 2) n₃ h₃ h₁ }
+      record { P = P; unit = λ z. c₅ (ap (λ (x : ℕ). x % 729) (h₅ ∙ zero-factor P (e 0) z)); equation = below-six _ h₅ h₀ h₁ h₂ h₃ h₄ }
     where
       over : (a : ℕ) → times (times a (inverse (e 5))) (e 5) ≡ times (inverse (e 5)) (times (e 5) a)
       over a = simp products
@@ -144,30 +179,85 @@ module _ (e : ℕ → ℕ) (A : Annihilated e) (none : key e ≡ 0) where
       same : times (cube (e 4)) (e 0) ≡ times (e 5) (cube (e 5))
       same = sym (times-whole _ _) ∙ minus-none (times (cube (e 4)) (e 0)) (times (e 5) (cube (e 5))) (ap (λ (x : ℕ). x % 729) det-none) ∙ times-whole _ _
 
-  nexts : Nexts e
-  nexts = elim (ℕ-discrete (e 5 % 729) 0) [ yes z ↦ nexts-none z | no n ↦ nexts-some n ]
+  pub ratio-of-key : Ratio e
+  ratio-of-key = elim (ℕ-discrete (e 5 % 729) 0) [ yes z ↦ ratio-none z | no n ↦ ratio-some n ]
 
--- A MESSAGE NEAR THE CARD is the one read off
-minus-whole : (a b : ℕ) → minus a b % 729 ≡ minus a b
-unfolding minus
-minus-whole a b = add-whole _ _
+-- THE COEFFICIENTS, THEN, are the chain's
+next-rest : (u v x : ℕ) → next-error u v (x % 729) ≡ next-error u v x
+unfolding next-error
+next-rest u v x = ap (times _) (at-rest cube-linear x)
 
-taken-back : (r f : ℕ) → f < 729 → minus r (minus r f) ≡ f
-taken-back r f h = before ∙ mod-eq-of-lt h
+module _ (e : ℕ → ℕ) (R : Ratio e) where
+  step-none : (i : ℕ) → i < 6 → Zero (e ((i + 5) % 6)) → Zero (e i)
+  step-none i h z = no-divisors (R .P) (e i) (R .unit) (sym (R .equation i h) ∙ none-cube _ z)
+
+  module _ (z₅ : Zero (e 5)) where
+    all-none : (i : ℕ) → i < 5 → Zero (e i)
+    all-none zero h = step-none 0 (lit< tt) z₅
+    all-none (suc i) h = step-none (suc i) (omega arith) (let w : (suc i + 5) % 6 ≡ i = omega arith in rw w (all-none i (omega arith)))
+
+    next-none : (x : ℕ) → next-error (e 4) (e 5) x ≡ 0
+    unfolding next-error
+    next-none x = ap (λ (t : ℕ). times t (cube x)) (zero-factor (e 5) (inverse (cube (e 4))) z₅) ∙ zero-times (cube x)
+
+    chained-none : (i : ℕ) → i < 5 → chain (e 4) (e 5) i ≡ e i % 729
+    unfolding chain
+    chained-none zero h = next-none _ ∙ sym (all-none 0 h)
+    chained-none (suc i) h = next-none _ ∙ sym (all-none (suc i) h)
+
+  module _ (n₅ : ¬ Zero (e 5)) where
+    next-is : (x y : ℕ) → cube x ≡ times (R .P) y → next-error (e 4) (e 5) x ≡ y % 729
+    unfolding next-error
+    next-is x y k = rw k (before (e 5) (inverse (cube (e 4))) ∙ rw (← R .equation 5 (lit< tt)) (divide (cube (e 4)) y n₄))
+      where
+        n₄ : ¬ Zero (cube (e 4))
+        n₄ z = times-not-zero (R .P) (e 5) (R .unit) n₅ (ap (λ (x : ℕ). x % 729) (sym (R .equation 5 (lit< tt))) ∙ z)
+
+        before : (a b : ℕ) → times (times a b) (times (R .P) y) ≡ times b (times (times (R .P) a) y)
+        before a b = simp products
+
+    chained-some : (i : ℕ) → i < 5 → chain (e 4) (e 5) i ≡ e i % 729
+    unfolding chain
+    chained-some zero h = next-is (e 5) (e 0) (R .equation 0 (lit< tt))
+    chained-some (suc i) h =
+        ap (next-error (e 4) (e 5)) (chained-some i (omega arith))
+        ∙ next-rest (e 4) (e 5) (e i)
+        ∙ next-is (e i) (e (suc i)) (let w : (suc i + 5) % 6 ≡ i = omega arith in rw w at (R .equation (suc i) (omega arith)))
+
+  pub chained : (i : ℕ) → i < 5 → chain (e 4) (e 5) i ≡ e i % 729
+  chained i h = elim (ℕ-discrete (e 5 % 729) 0) [ yes z ↦ chained-none z i h | no n ↦ chained-some n i h ]
+
+-- A MESSAGE NEAR THE CARD is the one computed
+less-rest : (a b : ℕ) → minus a (b % 729) ≡ minus a b
+less-rest a b = simp sums
+
+module _ (k : ℕ) (p : 1 ≤ k) (q : k ≤ 4) (c : List ℕ) (card : is-card c ≡ true) (m : List ℕ) (near : Near k c m) (R : Ratio (errors k c m)) where
+  five : k ≤ 5
+  five = omega arith
+
+  pub near-entry : (u : ℕ) → u ≡ errors k c m 4 → (i : ℕ) → i < 5 → minus (spectrum c i) (chain u (spectrum c 5) i) ≡ at (coefficients k m) i
+  near-entry u eu i h =
+      rw (eu, ← errors-beyond k p five c card m 5 (omega arith)) (
+      ap (minus (spectrum c i)) (chained (errors k c m) R i h) ∙ less-rest (spectrum c i) (errors k c m i) ∙ given-back k p five c card m i)
+
+  pub near-single : (u : ℕ) → u ≡ errors k c m 4 → single k (spectrum c) u ≡ m
+  unfolding single at
+  near-single u eu =
+      ap read (table-same (suc k) _ (at (coefficients k m)) (λ i h. near-entry u eu i (omega arith)) ∙ rw (← length-coefficients k p m) (table-at (coefficients k m)))
+      ∙ read-coefficients k p five m (near .message)
+
+-- so where the key is 0, for k = 1 and 2
+pub near-key : (k : ℕ) → 1 ≤ k → k ≤ 2 → (c : List ℕ) → is-card c ≡ true → (m : List ℕ) → Near k c m → key (spectrum c) ≡ 0
+    → single k (spectrum c) (spectrum c 4) ≡ m
+unfolding key
+near-key k p q c card m near none =
+    near-single k p (omega arith) c card m near (ratio-of-key (errors k c m) (near-annihilated k p five c card m near) same) (spectrum c 4) (sym (beyond 4 (omega arith)))
   where
-    before : minus r (minus r f) ≡ f % 729
-    before = simp ring
+    five : k ≤ 5
+    five = omega arith
 
-read-off : (r : ℕ → ℕ) (f₀ f₁ f₂ : ℕ) → f₀ < 729 → f₁ < 729 → f₂ < 729 → next-error r (r 5) ≡ minus (r 0) f₀
-    → next-error r (minus (r 0) f₀) ≡ minus (r 1) f₁ → next-error r (minus (r 1) f₁) ≡ minus (r 2) f₂ → single r ≡ low f₀ ∷ low f₁ ∷ high f₁ ∷ high f₂ ∷ []
-unfolding single
-read-off r f₀ f₁ f₂ b₀ b₁ b₂ s₀ s₁ s₂ = rw (s₀, s₁, s₂, taken-back (r 0) f₀ b₀, taken-back (r 1) f₁ b₁, taken-back (r 2) f₂ b₂)
+    beyond : (i : ℕ) → k < i → errors k c m i ≡ spectrum c i
+    beyond = errors-beyond k p five c card m
 
-pub near-single : (c : List ℕ) → is-card c ≡ true → (m : List ℕ) → Near 2 c m → key (spectrum c) ≡ 0 → single (spectrum c) ≡ m
-unfolding errors at key next-error inner pair
-near-single c card m near none =
-    let r = spectrum c in
-    let s = nexts (errors r m) (near-annihilated c card m near) none in
-    read-off r (small (at m 0)) (inner m 1) (times gamma (small (at m 3))) (small-linear .below _) (add-below _ _) (right gamma .below _)
-    (s .zeroth ∙ minus-whole _ _) (s .first ∙ minus-whole _ _) (s .second ∙ minus-whole _ _)
-    ∙ message-read c card m near
+    same : key (errors k c m) ≡ 0
+    same = rw (beyond 3 (omega arith), beyond 4 (omega arith), beyond 5 (omega arith)) none

@@ -35,7 +35,7 @@ unfolding at coefficients higher inners
 at-last = one-to-five _ (λ m. refl) (λ m. refl) (λ m. refl) (λ m. refl) (λ m. refl)
 
 module _ (k : ℕ) (p : 1 ≤ k) (q : k ≤ 5) where
-  word-spectrum : (m : List ℕ) (i : ℕ) → i < 6 → spectrum (word k m) i ≡ at (coefficients k m) i
+  pub word-spectrum : (m : List ℕ) (i : ℕ) → i < 6 → spectrum (word k m) i ≡ at (coefficients k m) i
   word-spectrum m i h =
       ap (λ (c : List ℕ). spectrum c i) (word-images k p m)
       ∙ spectrum-images (coefficients k m) (omega (arith, length-coefficients k p m)) i h

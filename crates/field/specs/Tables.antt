@@ -1,17 +1,18 @@
 -- The tables that products and inverses read, and what they read there. Assumes nothing.
--- Main: Tables, log-small, logs-small, product-near, product-round, inverse-one, inverse-back.
+-- Main: Tables, log-small, logs-small, product-near, product-round, cube-read, inverse-one, inverse-back.
 use mathlib.Core.Path.{_≡_, sym, ap, _∙_}
 use mathlib.Core.List.{List}
-use Prim.Native.Nat.{ℕ, _+_, _-_, _%_, _≤_, _<_}
+use Prim.Native.Nat.{ℕ, zero, suc, _+_, _*_, _-_, _/_, _%_, _≤_, _<_}
 use native.Mathlib.Nat.{mod-lt, mod-mod}
 use native.Mathlib.Omega.{arith}
 use lib.Dec.{lit<}
 use lib.ListN.{getD}
-use Rattle.algebra.specs.Field.{times, power}
+use Rattle.algebra.specs.Field.{times, power, cube}
 use Rattle.algebra.specs.Lists.{table, at-table}
 use Rattle.algebra.specs.Sums.{Zero}
-use Rattle.algebra.specs.Products.{times-rest, rest-times, zero-times, times-zero}
-use Rattle.algebra.specs.Powers.{powers, place, log, log-below, power-at, power-round, power-728, times-logs}
+use Rattle.algebra.specs.Linear.{at-rest, at-zero}
+use Rattle.algebra.specs.Products.{cube-linear, times-rest, rest-times, zero-times, times-zero}
+use Rattle.algebra.specs.Powers.{powers, place, log, log-below, power-at, power-log, power-plus, power-round, power-728, times-logs}
 use Rattle.algebra.specs.Inverses.{inverse, inverse-power}
 
 -- what is lent are the tables of the logarithms and of the powers
@@ -29,6 +30,17 @@ zero-left a b z = sym (sym (rest-times a b) ∙ ap (λ (x : ℕ). times x b) z �
 
 pub zero-right : (a b : ℕ) → Zero b → 0 ≡ times a b
 zero-right a b z = sym (sym (times-rest a b) ∙ ap (times a) z ∙ times-zero a)
+
+-- the powers come round after 728, however often
+power-rounds : (q k : ℕ) → power 3 (k + q * 728) ≡ power 3 k
+power-rounds zero k = ap (power 3) (omega arith)
+power-rounds (suc q) k = ap (power 3) (omega arith) ∙ power-round (k + q * 728) ∙ power-rounds q k
+
+power-rest : (n : ℕ) → power 3 (n % 728) ≡ power 3 n
+power-rest n = sym (power-rounds (n / 728) (n % 728)) ∙ ap (power 3) (omega arith)
+
+pub zero-cube : (a : ℕ) → Zero a → 0 ≡ cube a
+zero-cube a z = sym (sym (at-rest cube-linear a) ∙ ap cube z ∙ at-zero cube-linear)
 
 module _ {l p : List ℕ} (t : Tables l p) where
   log-read : (a : ℕ) → exponent l a ≡ log a
@@ -55,6 +67,21 @@ module _ {l p : List ℕ} (t : Tables l p) where
     pub product-round : 728 ≤ exponent l a + exponent l b → getD p (exponent l a + exponent l b - 728) 0 ≡ times a b
     product-round h =
         power-read _ (omega (arith, log-small a, log-small b)) ∙ sym (power-round _) ∙ ap (power 3) (omega arith) ∙ by-logs
+
+  -- CUBES: the exponent is taken three times
+  pub cube-read : (a : ℕ) → ¬ Zero a → getD p (3 * exponent l a % 728) 0 ≡ cube a
+  unfolding cube
+  cube-read a n =
+      power-read _ (mod-lt (3 * exponent l a) (lit< tt))
+      ∙ power-rest (3 * exponent l a)
+      ∙ ap (λ (k : ℕ). power 3 (3 * k)) (log-read a)
+      ∙ ap (power 3) thrice
+      ∙ sym (ap (times (power 3 (log a))) (power-plus (log a) (log a)) ∙ power-plus (log a) (log a + log a))
+      ∙ ap cube (power-log a n)
+      ∙ at-rest cube-linear a
+    where
+      thrice : 3 * log a ≡ log a + (log a + log a)
+      thrice = omega arith
 
   -- INVERSES: the exponent is taken from 728
   module _ (a : ℕ) (n : ¬ Zero a) where

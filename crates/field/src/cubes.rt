@@ -1,5 +1,4 @@
-// Cubes by their table. Every cubing of the program is a call of `cube`, which takes no lent table, so that its callers need not know of
-// one. Assumes nothing.
+// Cubes by their table, for callers that have no other table at hand. Assumes nothing.
 ghost use mathlib.Core.Path.{_≡_};
 ghost use Rattle.algebra.specs.Field.{cube, risen};
 use super::tables::CUBES;

@@ -1,7 +1,7 @@
-// Products and inverses by logarithms. Each use of a constant table copies it, so code that multiplies often takes the tables once, from
+// Products, cubes and inverses by logarithms. Each use of a constant table copies it, so code that multiplies often takes the tables once, from
 // `logs` and `powers`, and lends them to the functions that end in _with. These assume that what is lent are the tables, and nothing else.
 ghost use mathlib.Core.Path.{_≡_};
-ghost use Rattle.algebra.specs.Field.{times};
+ghost use Rattle.algebra.specs.Field.{times, cube};
 ghost use Rattle.algebra.specs.Lists.{table};
 ghost use Rattle.algebra.specs.Powers.{powers, log};
 ghost use Rattle.algebra.specs.Inverses.{inverse};
@@ -35,6 +35,19 @@ pub fn product_with(a: u16, b: u16, logs: &[u16; 729], powers: &[u16; 728]) -> u
     }
     let k = (logs[x] as usize) + (logs[y] as usize);
     if k < 728 { powers[k] } else { powers[k - 728] }
+}
+
+// The exponent of a cube is three times as large. Where no tables are at hand, `cube` has its own.
+pub fn cube_with(a: u16, logs: &[u16; 729], powers: &[u16; 728]) -> u16
+    requires { ⌜ Tables (now logs) (now powers) ⌝ }
+    ensures { λ r. ⌜ r ≡ cube a ⌝ }
+{
+    let x = (a % 729) as usize;
+    if x == 0 {
+        return 0;
+    }
+    let k = 3 * (logs[x] as usize) % 728;
+    powers[k]
 }
 
 // The exponent of the inverse of z^k is 728 - k, and that of 1 is 0.

@@ -24,8 +24,8 @@ loaded-requires c κs =
     let (p, q, l, w) = encode-passed (s .args .k) (now (s .args .message)) _ (no-refusal _ _ (t .encode-tests .ensures) (c .before .before .enum-told .given .1)) in
     omega (arith, q, l)
 
-word-of-requires : tie.Need-word-of-requires
-word-of-requires c κs =
+word-of-with-requires : tie.Need-word-of-with-requires
+word-of-with-requires c κs =
     let t = c .before .before .before .before .before .before .before in
     let s = t .before .before .before in
     let (p, q, l, w) = encode-passed (s .args .k) (now (s .args .message)) _ (no-refusal _ _ (t .encode-tests .ensures) (c .before .before .before .before .before .enum-told .given .1)) in
@@ -47,7 +47,7 @@ returns-2 c =
     let s = t .before .before .before in
     let (p, q, l, w) = encode-passed (s .args .k) (now (s .args .message)) _ (no-refusal _ _ (t .encode-tests .ensures) (e .enum-told .given .1)) in
     encoded-done (s .args .k) (now (s .args .message)) (now (s .args .word)) _ (t .encode-tests .ensures) (e .enum-told .given .1) _
-    (f .fill .ensures ∙ ap (λ (n : ℕ). take n (v .word-of .result)) w ∙ take-all 6 _ (omega arith) ∙ v .word-of .ensures
+    (f .fill .ensures ∙ ap (λ (n : ℕ). take n (v .word-of-with .result)) w ∙ take-all 6 _ (omega arith) ∙ v .word-of-with .ensures
     ∙ ap (word (s .args .k)) (ap (λ (n : ℕ). take n (v .before .before .before .loaded .result)) (sym l) ∙ v .before .before .before .loaded .ensures))
 
 pub encode-spec : {M : Type 1} → statement M
@@ -61,7 +61,7 @@ encode-spec =
     (λ c κs. search needs)
     (λ c κs. search needs)
     loaded-requires
-    word-of-requires
+    word-of-with-requires
     (λ c. search needs)
     fill-requires
     (λ c. search needs)

@@ -13,7 +13,7 @@ returns c =
     let s = c .before .before .before .before .before .before in
     cons (c .before .before .before .before .before .product-with .ensures) (cons (c .before .before .before .before .product-with2 .ensures) (cons (c .before .before .before .product-with3 .ensures)
     (cons (c .before .before .product-with4 .ensures) (cons (c .before .product-with5 .ensures) (cons (c .product-with6 .ensures) refl)))))
-    ∙ P-products (s .before .args .k) (s .before .pre .0) (s .before .pre .1) (s .before .args .c) (s .spectrum .result) (s .spectrum .ensures)
+    ∙ P-products (s .before .args .k) (s .before .pre .0) (s .before .pre .1) (s .before .args .c) (s .spectrum-with .result) (s .spectrum-with .ensures)
 
 pub weighted-spec : {M : Type 1} → statement M
 weighted-spec =

@@ -1,0 +1,79 @@
+-- Cards without damage: a test of the spectrum tells whether a card is a word, and then its message is read off. For k = 5, where no damage can
+-- be undone, that is all of decoding. Assumes nothing.
+-- Main: none-from, shaped, shaped-decode, shaped-is-word, unshaped-five.
+use mathlib.Core.Path.{_≡_, refl, sym, ap, _∙_}
+use mathlib.Core.Bool.{Bool, true, false, true≢false, _&&_}
+use mathlib.Core.List.{List}
+use mathlib.Core.Option.{none, some}
+use Prim.Native.Nat.{ℕ, zero, suc, _+_, _-_, _≤_, _<_}
+use native.Mathlib.Decide.{ℕ-discrete}
+use native.Mathlib.Nat.{mod-eq-of-lt}
+use native.Mathlib.Omega.{arith}
+use lib.Dec.{eqb, lit≤}
+use borrow.Author.Tests.{eqb-true, eq-eqb}
+use Rattle.algebra.specs.Field.{small}
+use Rattle.algebra.specs.Linear.{at-zero}
+use Rattle.algebra.specs.Tests.{both}
+use Rattle.algebra.specs.SmallField.{small-linear, low, high, low-linear, low-below, high-below, low-small}
+use Rattle.rank.specs.Definitions.{is-card, apart}
+use Rattle.rank.specs.Distance.{apart-self, apart-zero}
+use Rattle.coding.specs.Code.{word, radius, Near}
+use Rattle.coding.specs.Coefficients.{word-card}
+use Rattle.coding.specs.Spectrum.{spectrum}
+use Rattle.coding.specs.WordSpectrum.{Shape, message-of, is-message-of, word-shaped, shaped-word}
+use Rattle.coding.specs.Decode.{decode}
+use Rattle.coding.specs.Proved.{decoded, decode-none}
+
+-- THE TEST of a spectrum: no symbol from number i on, and the shape of a word's
+unfoldable pub none-from : (left i : ℕ) → (r : ℕ → ℕ) → Bool
+none-from zero i r = true
+none-from (suc n) i r = eqb (r i) 0 && none-from n (suc i) r
+
+unfoldable pub shaped : (k : ℕ) → (r : ℕ → ℕ) → Bool
+shaped k r = eqb (high (r 0)) 0 && (eqb (low (r k)) 0 && none-from (5 - k) (suc k) r)
+
+none-at : (n i : ℕ) (r : ℕ → ℕ) → none-from n i r ≡ true → (j : ℕ) → i ≤ j → j < i + n → r j ≡ 0
+unfolding none-from
+none-at zero i r h j p q = absurd (omega arith)
+none-at (suc n) i r h j p q =
+    let (a, b) = both (eqb (r i) 0) _ h in
+    elim (ℕ-discrete i j) [ yes e ↦ rw (← e) (eqb-true (r i) 0 a) | no d ↦ none-at n (suc i) r b j (omega arith) (omega arith) ]
+
+module _ (k : ℕ) (p : 1 ≤ k) (q : k ≤ 5) (c : List ℕ) (card : is-card c ≡ true) (h : shaped k (spectrum c) ≡ true) where
+  shape : Shape k c
+  unfolding shaped
+  shape =
+      let (a, t) = both (eqb (high (spectrum c 0)) 0) _ h in
+      let (b, n) = both (eqb (low (spectrum c k)) 0) _ t in
+      record {
+        small-first = ap small (eqb-true (high (spectrum c 0)) 0 a) ∙ at-zero small-linear;
+        gamma-last = ap small (eqb-true (low (spectrum c k)) 0 b) ∙ at-zero small-linear;
+        none-beyond = λ i l u. none-at (5 - k) (suc k) (spectrum c) n i l (omega arith);
+      }
+
+  -- A CARD THAT PASSES is the word of the message read off it
+  pub shaped-is-word : word k (message-of k c) ≡ c
+  shaped-is-word = shaped-word k p q c card shape
+
+  pub shaped-decode : decode k c ≡ some (message-of k c)
+  shaped-decode = decoded k p q c card (message-of k c) .1 (record {
+    message = is-message-of k p q c;
+    within = rw (shaped-is-word, apart-self c) (omega arith);
+  })
+
+-- A CARD THAT DOES NOT is none: for k = 5, where the radius is 0, none is near
+small-none : (h : ℕ) → h < 27 → small h ≡ 0 → h ≡ 0
+small-none h b z = sym (mod-eq-of-lt b) ∙ sym (low-small h) ∙ ap low z ∙ at-zero low-linear
+
+shape-five : (c : List ℕ) → Shape 5 c → shaped 5 (spectrum c) ≡ true
+unfolding shaped none-from
+shape-five c s = rw (
+  eq-eqb (high (spectrum c 0)) 0 (small-none _ (high-below (spectrum c 0)) (s .small-first)),
+  eq-eqb (low (spectrum c 5)) 0 (small-none _ (low-below (spectrum c 5)) (s .gamma-last)),
+)
+
+pub unshaped-five : (c : List ℕ) → is-card c ≡ true → shaped 5 (spectrum c) ≡ false → decode 5 c ≡ none
+unfolding radius
+unshaped-five c card h = decode-none 5 c .1 (λ m near.
+    let e : word 5 m ≡ c = apart-zero (word 5 m) c (word-card 5 (lit≤ tt) m) card (omega (arith, near .within)) in
+    true≢false (sym (shape-five c (rw e at (word-shaped 5 (lit≤ tt) (lit≤ tt) m))) ∙ h))

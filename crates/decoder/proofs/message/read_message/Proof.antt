@@ -1,0 +1,24 @@
+-- `decoder::message::read_message` meets its contract: the numbers but for the last, and that one. Assumes nothing.
+use Rattle.decoder.specs.Places.{message-is}
+use borrow.Author.Needs.{needs}
+use Rattle.decoder.proofs.message.read_message.Statement.{statement}
+use Rattle.decoder.proofs.message.read_message.Tie as tie
+
+returns : tie.Need-returns
+returns c =
+    let s = c .before .before in
+    message-is (s .args .k) (s .pre .0) (s .pre .1) (s .args .t2) _ _ (c .before .numbers .ensures .0) (c .before .numbers .ensures .1) (c .high .ensures)
+
+pub read-message-spec : {M : Type 1} → statement M
+read-message-spec =
+    tie.close
+    (tie.spec
+    (λ c κs. search needs)
+    (λ c. search needs)
+    (λ c. search needs)
+    (λ c κs. search needs)
+    (λ c. search needs)
+    (λ c. search needs)
+    (λ c. search needs)
+    (λ c. search needs)
+    returns)

@@ -1,0 +1,153 @@
+-- Errors of rank 2 as the code goes: for k = 1 the annihilator and what is solved by it, for k = 2 the constants that all proposals share and
+-- what is computed from them. Assumes nothing.
+-- Main: Annihilates, double-is, one-single, one-double, Prepared, ninth-is, middle-is, attempt-some, attempt-none, two-single, two-found,
+-- two-none.
+use mathlib.Core.Path.{_≡_, refl, sym, ap, _∙_}
+use mathlib.Core.Logic.{_≢_}
+use mathlib.Core.Bool.{true}
+use mathlib.Core.List.{List, [], _∷_}
+use mathlib.Core.Option.{none, some}
+use Prim.Native.Nat.{ℕ, _≤_, _<_}
+use lib.Dec.{lit≤, lit<}
+use borrow.Author.Tests.{eq-eqb, ne-eqb}
+use Rattle.algebra.specs.Field.{add, minus, times, cube, small}
+use Rattle.algebra.specs.Lists.{table}
+use Rattle.algebra.specs.Tests.{passes}
+use Rattle.algebra.specs.Inverses.{inverse}
+use Rattle.algebra.specs.SmallField.{low, high, low-below, high-below}
+use Rattle.rank.specs.Definitions.{at, is-card}
+use Rattle.coding.specs.Code.{is-message}
+use Rattle.coding.specs.Options.{first-of}
+use Rattle.coding.specs.Decode.{if-near, decode}
+use Rattle.coding.specs.Spectrum.{spectrum}
+use Rattle.coding.specs.Algebraic.{det, numerator, key, ninth, middle, first-error, proposed}
+use Rattle.coding.specs.RankOne.{single}
+use Rattle.coding.specs.DecodeTwo.{attempt, decode-two, two-is-decode}
+use Rattle.coding.specs.DecodeOne.{minor, lead, mean, solved, zeroth, first, double, decode-one, one-is-decode}
+use Rattle.decoder.specs.Finding.{first-at, first-all}
+use Rattle.decoder.specs.Places.{spectrum-at}
+use Rattle.decoder.specs.Singles.{single-spectrum}
+use Rattle.decoder.specs.declared.one.Annihilator.{Annihilator}
+use Rattle.decoder.specs.declared.two.Shared.{Shared}
+
+-- k = 1: THE ANNIHILATOR of a spectrum
+pub record Annihilates (r : ℕ → ℕ) (a : Annihilator) : Type 0 where
+  pub inverse : a .inverse ≡ inverse (lead r)
+  pub mean : a .mean ≡ mean r
+  pub minor : a .minor ≡ minor r
+
+-- the message solved by it
+pub double-is : (r : ℕ → ℕ) (a : Annihilator) → Annihilates r a → (f₀ e₀ f₁ m₀ m₁ : ℕ)
+    → f₀ ≡ add (r 0) (times (a .inverse) (add (times (cube (cube (r 4))) (a .minor)) (times (a .mean) (cube (r 5))))) → e₀ ≡ minus (r 0) f₀
+    → f₁ ≡ add (r 1) (times (a .inverse) (add (times (cube (cube (r 5))) (a .minor)) (times (a .mean) (cube e₀)))) → m₀ ≡ low f₀ → m₁ ≡ high f₁
+    → m₀ ∷ m₁ ∷ [] ≡ double r
+unfolding double zeroth first solved
+double-is r a s f₀ e₀ f₁ m₀ m₁ h₀ e h₁ h₂ h₃ = rw (h₂, h₃, h₁, e, h₀, s .inverse, s .mean, s .minor)
+
+pub double-message : (r : ℕ → ℕ) → is-message 1 (double r) ≡ true
+unfolding is-message double
+double-message r = passes 2 26 (double r) refl (low-below _, (high-below _, tt))
+
+module _ (c : List ℕ) (card : is-card c ≡ true) (r : List ℕ) (e : r ≡ table 6 (spectrum c)) (k : ℕ) (ek : k ≡ lead (at r)) where
+  lead-is : lead (at r) ≡ lead (spectrum c)
+  unfolding lead at table
+  lead-is = ap (λ (x : List ℕ). lead (at x)) e
+
+  double-spectrum : double (at r) ≡ double (spectrum c)
+  unfolding double zeroth first solved lead mean minor at table
+  double-spectrum = ap (λ (x : List ℕ). double (at x)) e
+
+  pub one-single : k ≡ 0 → (m : List ℕ) → m ≡ single 1 (at r) (at r 4) → if-near 1 c m ≡ decode 1 c
+  unfolding decode-one
+  one-single z m h =
+      rw (h ∙ single-spectrum c r e 1 (lit≤ tt) (at r 4), spectrum-at c r e 4 (lit< tt)) (sym (rw (sym lead-is ∙ sym ek ∙ z)) ∙ one-is-decode c card)
+
+  pub one-double : k ≢ 0 → (m : List ℕ) → m ≡ double (at r) → if-near 1 c m ≡ decode 1 c
+  unfolding decode-one
+  one-double n m h = rw (h ∙ double-spectrum) (sym (rw (ne-eqb (lead (spectrum c)) 0 (λ z. n (ek ∙ lead-is ∙ z)))) ∙ one-is-decode c card)
+
+-- k = 2: THE CONSTANTS of a spectrum
+pub record Prepared (r : ℕ → ℕ) (s : Shared) : Type 0 where
+  pub zeroth : s .zeroth ≡ r 0
+  pub first : s .first ≡ r 1
+  pub det0 : s .det0 ≡ times (r 5) (cube (r 5))
+  pub det1 : s .det1 ≡ cube (r 4)
+  pub num0 : s .num0 ≡ times (cube (cube (r 4))) (r 5)
+  pub num1 : s .num1 ≡ cube (cube (r 3))
+  pub top0 : s .top0 ≡ times 684 (cube (cube (r 2)))
+  pub top1 : s .top1 ≡ times 684 (times (key r) (r 4))
+  pub top2 : s .top2 ≡ times 684 (cube (r 3))
+  pub ninth : s .ninth ≡ cube (cube (r 5))
+  pub key : s .key ≡ key r
+
+-- they are those of a card, if the spectrum is
+pub prepared-of : (c r : List ℕ) (s : Shared) → r ≡ table 6 (spectrum c) → Prepared (at r) s → Prepared (spectrum c) s
+unfolding at table key
+prepared-of c r s e p =
+    let q : Prepared (at (table 6 (spectrum c))) s = rw e at p in
+    record {
+      zeroth = q .zeroth;
+      first = q .first;
+      det0 = q .det0;
+      det1 = q .det1;
+      num0 = q .num0;
+      num1 = q .num1;
+      top0 = q .top0;
+      top1 = q .top1;
+      top2 = q .top2;
+      ninth = q .ninth;
+      key = q .key;
+    }
+
+-- WHAT THE CODE COMPUTES FROM THEM, for a first number
+module _ (r : ℕ → ℕ) (s : Shared) (p : Prepared r s) (a t x p₁ d p₂ n : ℕ) (et : t ≡ small a) (ex : x ≡ minus (s .zeroth) t)
+    (e₁ : p₁ ≡ times (s .det1) x) (ed : d ≡ minus p₁ (s .det0)) (e₂ : p₂ ≡ times (s .num1) x) (en : n ≡ minus (s .num0) p₂) where
+  pub ninth-is : (v : ℕ) → v ≡ add (s .top0) (times (inverse d) (add (times n (s .top2)) (s .top1))) → v ≡ ninth r (first-error r a)
+  unfolding ninth det numerator first-error
+  ninth-is v e = cc
+
+  pub middle-is : (f : ℕ) → f ≡ add (s .first) (times (inverse (s .key)) (add (times (s .ninth) d) (times n (cube x)))) → f ≡ middle r (first-error r a)
+  unfolding middle det numerator first-error
+  middle-is f e = cc
+
+pub proposed-is : (r : ℕ → ℕ) (a v f m₁ m₂ m₃ : ℕ) → v ≡ ninth r (first-error r a) → f ≡ middle r (first-error r a)
+    → m₁ ≡ low f → m₂ ≡ high f → m₃ ≡ low (cube v) → a ∷ m₁ ∷ m₂ ∷ m₃ ∷ [] ≡ proposed r a
+unfolding proposed
+proposed-is r a v f m₁ m₂ m₃ ev ef e₁ e₂ e₃ = cc
+
+-- the proposals are messages
+pub proposed-message : (r : ℕ → ℕ) (a : ℕ) → a < 27 → is-message 2 (proposed r a) ≡ true
+unfolding is-message proposed
+proposed-message r a h = passes 4 26 (proposed r a) refl (h, (low-below _, (high-below _, (low-below _, tt))))
+
+-- AN ATTEMPT
+module _ (c : List ℕ) (a v : ℕ) (e : v ≡ ninth (spectrum c) (first-error (spectrum c) a)) where
+  pub attempt-none : high v ≢ 0 → attempt c a ≡ none
+  unfolding attempt
+  attempt-none n = rw (← e, ne-eqb (high v) 0 n)
+
+  pub attempt-some : high v ≡ 0 → attempt c a ≡ if-near 2 c (proposed (spectrum c) a)
+  unfolding attempt
+  attempt-some z = rw (← e, eq-eqb (high v) 0 z)
+
+-- THE ANSWER: where the key is 0, and after each attempt
+module _ (c : List ℕ) (card : is-card c ≡ true) (r : List ℕ) (e : r ≡ table 6 (spectrum c)) (k : ℕ) (ek : k ≡ key (at r)) where
+  key-is : key (at r) ≡ key (spectrum c)
+  unfolding key at table
+  key-is = ap (λ (x : List ℕ). key (at x)) e
+
+  pub two-single : k ≡ 0 → (m : List ℕ) → m ≡ single 2 (at r) (at r 4) → if-near 2 c m ≡ decode 2 c
+  unfolding decode-two
+  two-single z m h =
+      rw (h ∙ single-spectrum c r e 2 (lit≤ tt) (at r 4), spectrum-at c r e 4 (lit< tt)) (sym (rw (sym key-is ∙ sym ek ∙ z)) ∙ two-is-decode c card)
+
+  module _ (n : k ≢ 0) where
+    two-first : first-of 27 (attempt c) ≡ decode 2 c
+    unfolding decode-two
+    two-first = sym (rw (ne-eqb (key (spectrum c)) 0 (λ z. n (ek ∙ key-is ∙ z)))) ∙ two-is-decode c card
+
+    pub two-found : (a : ℕ) (m : List ℕ) → first-of a (attempt c) ≡ none → a < 27 → attempt c a ≡ some m → decode 2 c ≡ some m
+    two-found a m f l h = sym two-first ∙ first-at (attempt c) m a 27 f l h
+
+    pub two-none : (a : ℕ) → a ≤ 27 → 27 ≤ a → first-of a (attempt c) ≡ none → decode 2 c ≡ none
+    two-none a u l f = sym two-first ∙ first-all (attempt c) a 27 u l f

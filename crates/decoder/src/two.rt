@@ -1,0 +1,145 @@
+// Decoding for k = 2: three of the error's coefficients are the card's, and the equations between them give the others for each of the 27
+// first numbers that a message can have. Assumes nothing.
+ghost use mathlib.Core.Path.{_≡_};
+ghost use mathlib.Core.Bool.{true};
+ghost use Prim.Native.Nat.{_<_};
+ghost use Rattle.algebra.specs.Field.{add, times, cube};
+ghost use Rattle.algebra.specs.Lists.{table};
+ghost use Rattle.algebra.specs.Inverses.{inverse};
+ghost use Rattle.rank.specs.Definitions.{at, is-card};
+ghost use Rattle.field.specs.Tables.{Tables};
+ghost use Rattle.coding.specs.Spectrum.{spectrum};
+ghost use Rattle.coding.specs.Algebraic.{key};
+ghost use Rattle.coding.specs.Decode.{decode};
+ghost use Rattle.coding.specs.DecodeTwo.{attempt};
+ghost use Rattle.decoder.specs.Finding.{answer, Whole};
+ghost use Rattle.decoder.specs.Doubles.{Prepared};
+use crate::found::Found;
+use crate::found::near;
+use crate::found::nothing;
+use crate::single::single;
+
+// 1 / gamma^9
+const GAMMA_BACK: u16 = 684;
+
+// What all proposals share: constants of the determinant, of the numerator, of the last symbol's ninth power and of the symbol in the middle.
+pub struct Shared {
+    pub zeroth: u16,
+    pub first: u16,
+    pub det0: u16,
+    pub det1: u16,
+    pub num0: u16,
+    pub num1: u16,
+    pub top0: u16,
+    pub top1: u16,
+    pub top2: u16,
+    pub ninth: u16,
+    pub key: u16,
+}
+
+// The key of a spectrum is 0 where the error has rank 1 or none.
+fn key_of(r: [u16; 6], logs: &[u16; 729], powers: &[u16; 728]) -> u16
+    requires { ⌜ Tables (now logs) (now powers) ⌝ }
+    ensures { λ v. ⌜ v ≡ key (at r) ⌝ }
+{
+    let a = field::cube_with(field::cube_with(r[3], logs, powers), logs, powers);
+    let b = field::cube_with(r[4], logs, powers);
+    let c = field::cube_with(b, logs, powers);
+    field::difference(
+        field::product_with(a, field::cube_with(r[5], logs, powers), logs, powers),
+        field::product_with(c, b, logs, powers),
+    )
+}
+
+fn prepare(r: [u16; 6], known: u16, logs: &[u16; 729], powers: &[u16; 728]) -> Shared
+    requires { ⌜ (known ≡ key (at r)) × Tables (now logs) (now powers) ⌝ }
+    ensures { λ s. ⌜ Prepared (at r) s ⌝ }
+{
+    let c3 = field::cube_with(r[3], logs, powers);
+    let c4 = field::cube_with(r[4], logs, powers);
+    let c5 = field::cube_with(r[5], logs, powers);
+    let second = field::cube_with(field::cube_with(r[2], logs, powers), logs, powers);
+    let fourth = field::product_with(known, r[4], logs, powers);
+    Shared {
+        zeroth: r[0],
+        first: r[1],
+        det0: field::product_with(r[5], c5, logs, powers),
+        det1: c4,
+        num0: field::product_with(field::cube_with(c4, logs, powers), r[5], logs, powers),
+        num1: field::cube_with(c3, logs, powers),
+        top0: field::product_with(GAMMA_BACK, second, logs, powers),
+        top1: field::product_with(GAMMA_BACK, fourth, logs, powers),
+        top2: field::product_with(GAMMA_BACK, c3, logs, powers),
+        ninth: field::cube_with(c5, logs, powers),
+        key: known,
+    }
+}
+
+// The last symbol's ninth power, from the determinant and the numerator.
+fn ninth(s: Shared, d: u16, n: u16, logs: &[u16; 729], powers: &[u16; 728]) -> u16
+    requires { ⌜ Tables (now logs) (now powers) ⌝ }
+    ensures { λ v. ⌜ v ≡ add (s .top0) (times (inverse d) (add (times n (s .top2)) (s .top1))) ⌝ }
+{
+    let t = field::sum(field::product_with(n, s.top2, logs, powers), s.top1);
+    let i = field::inverse_with(d, logs, powers);
+    field::sum(s.top0, field::product_with(i, t, logs, powers))
+}
+
+// The symbol in the middle, from them and the error x in the first one.
+fn middle(s: Shared, x: u16, d: u16, n: u16, logs: &[u16; 729], powers: &[u16; 728]) -> u16
+    requires { ⌜ Tables (now logs) (now powers) ⌝ }
+    ensures { λ v. ⌜ v ≡ add (s .first) (times (inverse (s .key)) (add (times (s .ninth) d) (times n (cube x)))) ⌝ }
+{
+    let t = field::sum(
+        field::product_with(s.ninth, d, logs, powers),
+        field::product_with(n, field::cube_with(x, logs, powers), logs, powers),
+    );
+    let i = field::inverse_with(s.key, logs, powers);
+    field::sum(s.first, field::product_with(i, t, logs, powers))
+}
+
+// The message proposed for a first number, where its last symbol is small and it is near the card.
+fn attempt(card: [u16; 6], s: Shared, a: u16, logs: &[u16; 729], powers: &[u16; 728]) -> Found
+    requires { ⌜ (a < 27) × Prepared (spectrum card) s × Tables (now logs) (now powers) ⌝ }
+    ensures { λ r. ⌜ (answer 2 r ≡ attempt card a) × Whole 2 card r ⌝ }
+{
+    let x = field::difference(s.zeroth, field::small_symbol(a));
+    let d = field::difference(field::product_with(s.det1, x, logs, powers), s.det0);
+    let n = field::difference(s.num0, field::product_with(s.num1, x, logs, powers));
+    let v = ninth(s, d, n, logs, powers);
+    if field::high(v) != 0 {
+        return nothing();
+    }
+    let f = middle(s, x, d, n, logs, powers);
+    let second = field::low(f);
+    let third = field::high(f);
+    let fourth = field::low(field::cube_with(v, logs, powers));
+    let message = [a, second, third, fourth, 0, 0, 0, 0, 0, 0];
+    near(card, 2, message)
+}
+
+// The message near a card for k = 2, if there is one.
+pub(crate) fn decode_two(
+    card: [u16; 6],
+    r: [u16; 6],
+    logs: &[u16; 729],
+    powers: &[u16; 728],
+) -> Found
+    requires { ⌜ (is-card card ≡ true) × (r ≡ table 6 (spectrum card)) × Tables (now logs) (now powers) ⌝ }
+    ensures { λ f. ⌜ (answer 2 f ≡ decode 2 card) × Whole 2 card f ⌝ }
+{
+    let key = key_of(r, logs, powers);
+    if key == 0 {
+        return near(card, 2, single(2, r, r[4], logs, powers));
+    }
+    let s = prepare(r, key, logs, powers);
+    let mut a: u16 = 0;
+    while a < 27 {
+        let found = attempt(card, s, a, logs, powers);
+        if found.found {
+            return found;
+        }
+        a += 1;
+    }
+    nothing()
+}
