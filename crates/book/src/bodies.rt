@@ -3,13 +3,12 @@
 ghost use mathlib.Core.Path.{_≡_};
 ghost use mathlib.Core.Bool.{true};
 ghost use Rattle.refusal.specs.Answers.{told, answer};
-ghost use Rattle.field.specs.Tables.{Tables};
 ghost use Rattle.book.specs.Layout.{body-good};
 ghost use Rattle.book.specs.Reading.{spoken};
 ghost use Rattle.book.specs.Bodies.{body-refusal, total-delay, flawed, shown, Worn-shows};
 use crate::reading::Reading;
 use crate::reading::body_good;
-use crate::reading::read_card_with;
+use crate::reading::read_card;
 use refusal::Answer;
 use refusal::Refusal;
 
@@ -30,16 +29,16 @@ pub fn delay(read: Reading) -> u32
     }
 }
 
-// The sum of all delays, the tables being lent.
-fn delays(body: &[u8], logs: &[u16; 729], powers: &[u16; 728]) -> u32
-    requires { ⌜ (body-good (now body) ≡ true) × Tables (now logs) (now powers) ⌝ }
+// The sum of all delays.
+fn delays(body: &[u8]) -> u32
+    requires { ⌜ body-good (now body) ≡ true ⌝ }
     ensures { λ r. ⌜ r ≡ total-delay (now (body .entry)) ⌝ }
 {
     let count = (body.len() / 12) as u32;
     let mut total = 0;
     let mut n = 1;
     while n <= count {
-        total += delay(read_card_with(body, n, logs, powers));
+        total += delay(read_card(body, n));
         n += 1;
     }
     total
@@ -52,9 +51,7 @@ pub fn total_delay(body: &[u8]) -> Answer
     if !body_good(body) {
         return Answer::Refused(Refusal::Length);
     }
-    let logs = field::logs();
-    let powers = field::powers();
-    Answer::Value(delays(body, &logs, &powers))
+    Answer::Value(delays(body))
 }
 
 // Whether a reading was refused, or mended with rank 1 or more.
@@ -67,9 +64,9 @@ fn damaged(read: Reading) -> bool
     }
 }
 
-// A damaged card, or that there is none, the tables being lent.
-fn find_damaged(body: &[u8], logs: &[u16; 729], powers: &[u16; 728]) -> Worn
-    requires { ⌜ (body-good (now body) ≡ true) × Tables (now logs) (now powers) ⌝ }
+// A damaged card, or that there is none.
+fn find_damaged(body: &[u8]) -> Worn
+    requires { ⌜ body-good (now body) ≡ true ⌝ }
     ensures { λ r. ⌜ Worn-shows (now (body .entry)) (shown r) ⌝ }
 {
     let count = (body.len() / 12) as u32;
@@ -78,7 +75,7 @@ fn find_damaged(body: &[u8], logs: &[u16; 729], powers: &[u16; 728]) -> Worn
         if count < n {
             break Worn::Nothing;
         }
-        if damaged(read_card_with(body, n, logs, powers)) {
+        if damaged(read_card(body, n)) {
             break Worn::Card(n);
         }
         n += 1;
@@ -92,7 +89,5 @@ pub fn damaged_card(body: &[u8]) -> Worn
     if !body_good(body) {
         return Worn::Refused(Refusal::Length);
     }
-    let logs = field::logs();
-    let powers = field::powers();
-    find_damaged(body, &logs, &powers)
+    find_damaged(body)
 }

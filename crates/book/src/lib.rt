@@ -22,4 +22,3 @@ pub use pull::tune_offset;
 pub use reading::Reading;
 pub use reading::Strike;
 pub use reading::read_card;
-pub use reading::read_card_with;

@@ -1,11 +1,9 @@
-// Read: a card of a body, read as a strike (document 01: Read). The functions that end in _with take the field's tables, lent.
-// Assumes nothing: what is asked is asked in a `requires`.
+// Read: a card of a body, read as a strike (document 01: Read). Assumes nothing: what is asked is asked in a `requires`.
 ghost use mathlib.Core.Path.{_≡_};
 ghost use mathlib.Core.Bool.{true};
 ghost use Prim.Native.Nat.{_≤_};
 ghost use lib.ListN.{length, take};
 ghost use Rattle.coding.specs.Code.{is-message};
-ghost use Rattle.field.specs.Tables.{Tables};
 ghost use Rattle.book.specs.Layout.{body-good, symbols-from, card};
 ghost use Rattle.book.specs.Reading.{spoken, struck, card-refusal, said, no-card, cards-in, reading};
 use crate::fields::two_bytes;
@@ -84,14 +82,13 @@ fn meaning(message: [u16; 10], damage: u8) -> Reading
 }
 
 // Six symbols, read: 3 and 4 of Mend for k = 2, or their strike.
-fn read_symbols(card: [u16; 6], logs: &[u16; 729], powers: &[u16; 728]) -> Reading
-    requires { ⌜ Tables (now logs) (now powers) ⌝ }
+fn read_symbols(card: [u16; 6]) -> Reading
     ensures { λ r. ⌜ spoken r ≡ said (card-refusal card) card ⌝ }
 {
     if rank::any_above(&card, 728) {
         return Reading::Refused(Refusal::Range);
     }
-    let near = codec::decode_with(2, card, logs, powers);
+    let near = decoder::decode_card(2, card);
     if !near.found {
         return Reading::Refused(Refusal::Undecodable);
     }
@@ -99,9 +96,8 @@ fn read_symbols(card: [u16; 6], logs: &[u16; 729], powers: &[u16; 728]) -> Readi
     meaning(message, near.distance)
 }
 
-// Read, the tables being lent.
-pub fn read_card_with(body: &[u8], number: u32, logs: &[u16; 729], powers: &[u16; 728]) -> Reading
-    requires { ⌜ Tables (now logs) (now powers) ⌝ }
+// Document 01: Read. A card of a body, counted from 1: a strike with its damage, or a refusal: 2, then 9, then 3 and 4.
+pub fn read_card(body: &[u8], number: u32) -> Reading
     ensures { λ r. ⌜ spoken r ≡ reading (now (body .entry)) number ⌝ }
 {
     if !body_good(body) {
@@ -110,14 +106,5 @@ pub fn read_card_with(body: &[u8], number: u32, logs: &[u16; 729], powers: &[u16
     if no_card(body, number) {
         return Reading::Refused(Refusal::NoSuchCard);
     }
-    read_symbols(card_at(body, number as usize), logs, powers)
-}
-
-// Document 01: Read. A card of a body, counted from 1: a strike with its damage, or a refusal: 2, then 9, then 3 and 4.
-pub fn read_card(body: &[u8], number: u32) -> Reading
-    ensures { λ r. ⌜ spoken r ≡ reading (now (body .entry)) number ⌝ }
-{
-    let logs = field::logs();
-    let powers = field::powers();
-    read_card_with(body, number, &logs, &powers)
+    read_symbols(card_at(body, number as usize))
 }

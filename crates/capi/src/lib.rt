@@ -61,7 +61,7 @@ pub extern "C" fn lucetcoral_decode(
 ) -> u32
     ensures { λ r. ⌜ Decodes k (now (received .entry)) (now (word .entry)) (now (message .entry)) (now (distance .entry)) r (now (word .exit)) (now (message .exit)) (now (distance .exit)) ⌝ }
 {
-    give(codec::decode(k, received, word, message), distance)
+    give(decoder::decode(k, received, word, message), distance)
 }
 
 // Document 01: Open.

@@ -39,7 +39,7 @@ pub(crate) fn syndrome(line: &[u8], at: usize) {
 }
 
 fn run_decode(k: u32, received: &[u16], word: &mut [u16], message: &mut [u16]) {
-    print::answer(codec::decode(k, received, word, message));
+    print::answer(decoder::decode(k, received, word, message));
     print::symbols(word);
     print::symbols(message);
 }

@@ -2,7 +2,6 @@
 // Assumes what `io` and `libc` assume of reading and writing.
 ghost use mathlib.Core.Path.{_≡_};
 ghost use mathlib.Core.Bool.{true};
-ghost use Rattle.field.specs.Tables.{Tables};
 ghost use Rattle.book.specs.Layout.{body-good};
 ghost use Rattle.book.specs.Bodies.{total-delay};
 use book::Entry;
@@ -35,15 +34,15 @@ fn print_card(n: u32, read: Reading) {
 }
 
 // The lines of all cards of a body. Each card is decoded once, for its line and for the sum of the delays.
-fn list_cards(body: &[u8], logs: &[u16; 729], powers: &[u16; 728]) -> u32
-    requires { ⌜ (body-good (now body) ≡ true) × Tables (now logs) (now powers) ⌝ }
+fn list_cards(body: &[u8]) -> u32
+    requires { ⌜ body-good (now body) ≡ true ⌝ }
     ensures { λ r. ⌜ r ≡ total-delay (now (body .entry)) ⌝ }
 {
     let count = (body.len() / 12) as u32;
     let mut total = 0;
     let mut n = 1;
     while n <= count {
-        let read = book::read_card_with(body, n, logs, powers);
+        let read = book::read_card(body, n);
         print_card(n, read);
         total += book::delay(read);
         n += 1;
@@ -51,34 +50,28 @@ fn list_cards(body: &[u8], logs: &[u16; 729], powers: &[u16; 728]) -> u32
     total
 }
 
-fn list_tune(bytes: &[u8], tune: Tune, logs: &[u16; 729], powers: &[u16; 728])
-    requires { ⌜ Tables (now logs) (now powers) ⌝ }
-{
+fn list_tune(bytes: &[u8], tune: Tune) {
     io::write_all(1, b"tune");
     print_field(tune.number);
     print_field(tune.cards);
     io::write_all(1, b"\n");
-    let ticks = list_cards(book::tune_body(bytes, tune.number), logs, powers);
+    let ticks = list_cards(book::tune_body(bytes, tune.number));
     io::write_all(1, b"ticks");
     print_field(ticks);
     io::write_all(1, b"\n");
 }
 
 // The tune at a place of the contents.
-fn list_place(bytes: &[u8], place: u32, logs: &[u16; 729], powers: &[u16; 728])
-    requires { ⌜ Tables (now logs) (now powers) ⌝ }
-{
+fn list_place(bytes: &[u8], place: u32) {
     if let Entry::Tune(tune) = book::tune_at(bytes, place) {
-        list_tune(bytes, tune, logs, powers);
+        list_tune(bytes, tune);
     }
 }
 
 fn list_tunes(bytes: &[u8], count: u32) {
-    let logs = field::logs();
-    let powers = field::powers();
     let mut place = 0;
     while place < count {
-        list_place(bytes, place, &logs, &powers);
+        list_place(bytes, place);
         place += 1;
     }
 }

@@ -15,7 +15,7 @@ list-tune-spec =
     (λ c. search needs)
     (λ c κs. search needs)
     (λ c κs. search needs)
-    (λ c κs. (rw (c .tune-body .ensures) (pulled-good _ _), search needs))
+    (λ c κs. rw (c .tune-body .ensures) (pulled-good _ _))
     (λ c. search needs)
     (λ c κs. search needs)
     (λ c κs. search needs)

@@ -11,22 +11,22 @@ use Rattle.book.proofs.bodies.delays.Statement.{statement}
 use Rattle.book.proofs.bodies.delays.Tie as tie
 
 abbrev Inv-loop : tie.InvT-loop
-Inv-loop body logs powers count total₀ n₀ total n = Adding body total n
+Inv-loop body count total₀ n₀ total n = Adding body total n
 
 abbrev μ-loop : tie.MeasureT-loop
-μ-loop body logs powers count total₀ n₀ total n = cards-in body + 1 - n
+μ-loop body count total₀ n₀ total n = cards-in body + 1 - n
 
 cast-count : tie.Need-cast-count Inv-loop μ-loop
-cast-count c = omega (arith, good-length _ (c .before .pre .0))
+cast-count c = omega (arith, good-length _ (c .before .pre))
 
 -- what is added is the card's delay
 added : (c : tie.After-delay Inv-loop μ-loop) → let l = c .before .before .before in
     c .delay .result ≡ reading (now (l .before .before .args .body)) (l .loop .n) .delay
-added c = c .delay .ensures ∙ ap (λ (s : Spoken). s .delay) (c .before .read-card-with .ensures)
+added c = c .delay .ensures ∙ ap (λ (s : Spoken). s .delay) (c .before .read-card .ensures)
 
 fits : (c : tie.After-delay Inv-loop μ-loop) → let l = c .before .before .before in
     (l .loop .n ≤ 5461) × (l .loop .total + c .delay .result ≤ 5462 * 728)
-fits c = let l = c .before .before .before in adding-fits _ _ _ (l .loop .inv) (l .before .before .pre .0) _ (omega arith) (added c)
+fits c = let l = c .before .before .before in adding-fits _ _ _ (l .loop .inv) (l .before .before .pre) _ (omega arith) (added c)
 
 loop-again : tie.Need-loop-again Inv-loop μ-loop
 loop-again c = let l = c .before .before .before in adding-next _ _ _ (l .loop .inv) _ (omega arith) (added c)

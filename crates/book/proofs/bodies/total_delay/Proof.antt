@@ -18,14 +18,12 @@ good : (c : tie.Else1) → body-good (now (c .before .before .before .args .body
 good c = sym (c .before .body-good .ensures) ∙ not-false _ (c .if1 .left)
 
 delays-requires : tie.Need-delays-requires
-delays-requires c κs =
-    (good (c .before .before .before .before), record { logs = c .before .before .before .logs .ensures; powers = c .before .before .powers .ensures })
+delays-requires c κs = good c
 
 returns-2 : tie.Need-returns-2
 unfolding answer body-refusal
-returns-2 c = rw (good (c .before .before .before .before .before), c .delays .ensures)
+returns-2 c = rw (good (c .before), c .delays .ensures)
 
 pub total-delay-spec : {M : Type 1} → statement M
 total-delay-spec =
-    tie.close
-    (tie.spec (λ c κs. search needs) returns (λ c κs. search needs) (λ c κs. search needs) delays-requires returns-2)
+    tie.close (tie.spec (λ c κs. search needs) returns delays-requires returns-2)

@@ -1,4 +1,4 @@
--- `book::reading::read_symbols` meets its contract: it goes by what `any_above` and `decode_with` answer, as `card-refusal` does. Assumes
+-- `book::reading::read_symbols` meets its contract: it goes by what `any_above` and `decode_card` answer, as `card-refusal` does. Assumes
 -- nothing.
 use mathlib.Core.Path.{_≡_, sym, _∙_}
 use mathlib.Core.Bool.{false}
@@ -17,27 +17,27 @@ returns c = said-range _ (sym (c .before .any-above .ensures) ∙ c .if1 .taken)
 inside : (c : tie.Else1) → any-above 728 (c .before .before .before .args .t1) ≡ false
 inside c = sym (c .before .any-above .ensures) ∙ c .if1 .left
 
-decode-with-requires : tie.Need-decode-with-requires
-decode-with-requires c κs =
+decode-card-requires : tie.Need-decode-card-requires
+decode-card-requires c κs =
     let s = c .before .before .before in
-    (omega arith, omega arith, card-passes (s .args .t1) (s .good .0 .1 .0 .1) (inside c), s .pre)
+    (omega arith, omega arith, card-passes (s .args .t1) (s .good .0 .1 .0 .1) (inside c))
 
 returns-2 : tie.Need-returns-2
 returns-2 c =
     let d = c .before .before in
-    said-none _ (d .decode-with .result) (inside (d .before)) (d .decode-with .ensures .0) (not-true _ (c .if2 .taken))
+    said-none _ (d .decode-card .result) (inside (d .before)) (d .decode-card .ensures .0) (not-true _ (c .if2 .taken))
 
 meaning-requires : tie.Need-meaning-requires
 meaning-requires c κs =
     let d = c .before .before .before in
-    decoded-message _ _ (found-message _ (d .decode-with .result) (inside (d .before)) (d .decode-with .ensures .0) (not-false _ (c .before .if2 .left)))
+    decoded-message _ _ (found-message _ (d .decode-card .result) (inside (d .before)) (d .decode-card .ensures .0) (not-false _ (c .before .if2 .left)))
 
 returns-3 : tie.Need-returns-3
 returns-3 c =
     let e = c .before .before in
     let d = e .before .before in
     c .meaning .ensures
-    ∙ said-found _ (d .decode-with .result) (inside (d .before)) (d .decode-with .ensures .0) (d .decode-with .ensures .1) (not-false _ (e .if2 .left))
+    ∙ said-found _ (d .decode-card .result) (inside (d .before)) (d .decode-card .ensures .0) (d .decode-card .ensures .1) (not-false _ (e .if2 .left))
 
 pub read-symbols-spec : {M : Type 1} → statement M
 read-symbols-spec =
@@ -46,7 +46,7 @@ read-symbols-spec =
     (λ c. search needs)
     (λ c κs. search needs)
     returns
-    decode-with-requires
+    decode-card-requires
     returns-2
     meaning-requires
     returns-3)
