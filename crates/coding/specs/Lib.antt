@@ -29,3 +29,6 @@ pub mod RankOne
 pub mod DecodeTwo
 -- Cards of low rank
 pub mod LowRank
+-- Linear functions by packed digits
+pub mod Packed
+pub mod Transforms
