@@ -5,6 +5,7 @@ pub mod Refusals
 -- The code's arrays
 pub mod Filling
 pub mod Arrays
+pub mod Packed
 pub mod Words
 pub mod Messages
 -- Decoding as the code goes

@@ -4,6 +4,7 @@ mod decoding;
 mod encoding;
 mod interpolation;
 mod lists;
+mod packed;
 mod refusals;
 mod spectrum;
 mod syndromes;

@@ -5,7 +5,7 @@ use mathlib.Core.Path.{_≡_, refl, sym, ap, ap₂, _∙_, fun-ext}
 use mathlib.Core.Bool.{Bool, true, false, _||_, true≢false}
 use mathlib.Core.List.{List, [], _∷_, _++_, map}
 use Prim.Native.Nat.{ℕ, zero, suc, _+_, _*_, _/_, _%_, _≤_, _<_}
-use native.Mathlib.Nat.{mod-eq-of-lt, mul-le-mul-right}
+use native.Mathlib.Nat.{mod-eq-of-lt, mul-le-mul, mul-le-mul-right, div-div-eq-div-mul}
 use native.Mathlib.Omega.{arith}
 use lib.Dec.{ltb}
 use lib.ListN.{length, getD}
@@ -74,6 +74,36 @@ gather-zero a rs h =
     let z : (r : List ℕ) → raise a 0 r ≡ a = λ r. raise-zero a r h in
     rw (z (getD rs 0 []), z (getD rs 1 []), z (getD rs 2 []), z (getD rs 3 []), z (getD rs 4 []), z (getD rs 5 []))
 
+-- the four numbers grow by no more than twice the row's
+pub raise-bound : (a : List ℕ) (d : ℕ) (r : List ℕ) (m : ℕ) → d ≤ 2 → ((w : ℕ) → getD r w 0 ≤ m) → (w : ℕ) → getD (raise a d r) w 0 ≤ getD a w 0 + 2 * m
+unfolding raise table
+raise-bound a d r m h b zero = omega (arith, mul-le-mul h (b 0))
+raise-bound a d r m h b (suc zero) = omega (arith, mul-le-mul h (b 1))
+raise-bound a d r m h b (suc (suc zero)) = omega (arith, mul-le-mul h (b 2))
+raise-bound a d r m h b (suc (suc (suc zero))) = omega (arith, mul-le-mul h (b 3))
+raise-bound a d r m h b (suc (suc (suc (suc w)))) = omega arith
+
+-- whether an entry of a list of rows is above a bound
+unfoldable pub rows-above : (most : ℕ) → List (List ℕ) → Bool
+rows-above m [] = false
+rows-above m (r ∷ rs) = any-above m r || rows-above m rs
+
+both-false : (a b : Bool) → (a || b) ≡ false → (a ≡ false) × (b ≡ false)
+both-false true b e = absurd (true≢false e)
+both-false false b e = (refl, e)
+
+below-at : (m : ℕ) (l : List ℕ) → any-above m l ≡ false → (k : ℕ) → getD l k 0 ≤ m
+unfolding any-above
+below-at m [] e k = omega arith
+below-at m (x ∷ l) e zero = omega (arith, ltb-false m x (both-false (ltb m x) _ e .0))
+below-at m (x ∷ l) e (suc k) = below-at m l (both-false (ltb m x) _ e .1) k
+
+pub rows-at : (m : ℕ) (rs : List (List ℕ)) → rows-above m rs ≡ false → (t w : ℕ) → getD (getD rs t []) w 0 ≤ m
+unfolding rows-above
+rows-at m [] e t w = omega arith
+rows-at m (r ∷ rs) e zero w = below-at m r (both-false (any-above m r) _ e .0) w
+rows-at m (r ∷ rs) e (suc t) w = rows-at m rs (both-false (any-above m r) _ e .1) t w
+
 -- THE ROWS of a linear function to six symbols: the digits of its values at the basis
 unfoldable pub flat : (v : ℕ → ℕ) → List ℕ
 flat v = digits (v 0) ++ (digits (v 1) ++ (digits (v 2) ++ (digits (v 3) ++ (digits (v 4) ++ digits (v 5)))))
@@ -133,6 +163,24 @@ digit-sum u f g e (s ∷ ss) = digit-add (f s) (sum-of (map f ss)) u ∙ omega (
 unfoldable pub settle : List ℕ → List ℕ
 settle a = table 6 (λ j. number-of (table 6 (λ u. lane (getD a ((6 * j + u) / 9) 0) ((6 * j + u) % 9))))
 
+-- a symbol of the first three counts of two numbers; the six of four numbers
+unfoldable pub symbol : (v w : ℕ) → ℕ
+symbol v w = number-of (lane v 0 ∷ lane v 1 ∷ lane v 2 ∷ lane w 0 ∷ lane w 1 ∷ lane w 2 ∷ [])
+
+pub symbol-is : (v w : ℕ)
+    → v % 128 % 3 + 3 * (v / 128 % 128 % 3) + 9 * (v / 16384 % 128 % 3) + 27 * (w % 128 % 3) + 81 * (w / 128 % 128 % 3) + 243 * (w / 16384 % 128 % 3)
+    ≡ symbol v w
+unfolding symbol lane number-of
+symbol-is v w = simp div-div-eq-div-mul (omega arith)
+
+pub settle-six : (a : List ℕ)
+    → symbol (getD a 0 0) (getD a 0 0 / 2097152) ∷ symbol (getD a 0 0 / 4398046511104) (getD a 1 0)
+    ∷ symbol (getD a 1 0 / 2097152) (getD a 1 0 / 4398046511104) ∷ symbol (getD a 2 0) (getD a 2 0 / 2097152)
+    ∷ symbol (getD a 2 0 / 4398046511104) (getD a 3 0) ∷ symbol (getD a 3 0 / 2097152) (getD a 3 0 / 4398046511104) ∷ []
+    ≡ settle a
+unfolding settle symbol lane table
+settle-six a = simp div-div-eq-div-mul
+
 settle-held : (c : ℕ → ℕ) → ((k : ℕ) → k < 36 → c k < 128) → settle (held c) ≡ table 6 (λ j. number-of (table 6 (λ u. c (6 * j + u))))
 unfolding settle held
 settle-held c b = table-same 6 _ _ (λ j h. ap number-of (table-same 6 _ _ (λ u q. read (6 * j + u) (omega arith))))
@@ -191,19 +239,6 @@ whole-bound : (f g : ℕ → ℕ) → ((s : ℕ) → f s ≤ 2 * g s) → (ss : 
 unfolding whole
 whole-bound f g h [] = omega arith
 whole-bound f g h (s ∷ ss) = omega (arith, h s, whole-bound f g h ss)
-
-below-at : (m : ℕ) (l : List ℕ) → any-above m l ≡ false → (k : ℕ) → getD l k 0 ≤ m
-unfolding any-above
-below-at m [] e k = omega arith
-below-at m (x ∷ l) e k = go (ltb m x) refl e (below-at m l)
-  where
-    go : (b : Bool) → ltb m x ≡ b → (b || any-above m l) ≡ false → (any-above m l ≡ false → (i : ℕ) → getD l i 0 ≤ m) → getD (x ∷ l) k 0 ≤ m
-    go true t e r = absurd (true≢false e)
-    go false t e r = at k
-      where
-        at : (i : ℕ) → getD (x ∷ l) i 0 ≤ m
-        at zero = omega (arith, ltb-false m x t)
-        at (suc i) = r e i
 
 -- SIX NUMBERS TO SIX SYMBOLS: symbol j is the sum of f s j at number s
 abbrev six : List ℕ
