@@ -148,7 +148,7 @@ pub(crate) fn decode_two(card: [u16; 6], logs: &[u16; 729], powers: &[u16; 728])
     requires { ⌜ (is-card card ≡ true) × Tables (now logs) (now powers) ⌝ }
     ensures { λ r. ⌜ (answer 2 r ≡ decode 2 card) × Whole 2 card r ⌝ }
 {
-    let r = spectrum(card, logs, powers);
+    let r = spectrum(card);
     let key = key_of(r, logs, powers);
     if key == 0 {
         return near(card, 2, single(r, logs, powers), logs, powers);

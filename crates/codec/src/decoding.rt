@@ -61,7 +61,7 @@ pub(crate) fn near(
     requires { ⌜ (1 ≤ k) × (k ≤ 5) × (is-message k (take (2 * k) message) ≡ true) × Tables (now logs) (now powers) ⌝ }
     ensures { λ r. ⌜ (answer k r ≡ if-near k card (take (2 * k) message)) × Whole k card r ⌝ }
 {
-    let word = word_of(k, message, logs, powers);
+    let word = word_of(k, message);
     let distance = rank::rank_of(difference(word, card));
     if (6 - k) / 2 < (distance as usize) {
         return nothing();
@@ -84,7 +84,7 @@ fn leaf_of(card: [u16; 6], k: usize, s: State, logs: &[u16; 729], powers: &[u16;
     if (6 - k) / 2 < (weight as usize) {
         return nothing();
     }
-    near(card, k, message_of(k, word, logs, powers), logs, powers)
+    near(card, k, message_of(k, word), logs, powers)
 }
 
 // The state with the relation of column p to the combination i of the free columns.

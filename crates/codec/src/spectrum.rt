@@ -1,44 +1,268 @@
-// The spectrum of a card: the coefficients of the polynomial that takes its symbols at 1, z, .. z^5; and the message read off it.
+// The spectrum of a card: the coefficients of the polynomial that takes its symbols at 1, z, .. z^5; and the message read off it. It is linear
+// in the card's digits.
 ghost use mathlib.Core.Path.{_≡_};
 ghost use Prim.Native.Nat.{_*_, _≤_};
 ghost use lib.ListN.{take};
 ghost use Rattle.algebra.specs.Lists.{table};
-ghost use Rattle.field.specs.Tables.{Tables};
 ghost use Rattle.coding.specs.Spectrum.{spectrum};
 ghost use Rattle.coding.specs.WordSpectrum.{message-of};
-use crate::vectors::inner_product;
+use crate::packed::digits;
+use crate::packed::gathered;
+use crate::packed::settled;
 
-// Row i: the 3^i-th powers of the dual basis of 1, z, .. z^5.
-const DUAL: [[u16; 6]; 6] = [
-    [396, 420, 500, 677, 61, 319],
-    [408, 35, 332, 499, 241, 640],
-    [175, 149, 378, 331, 261, 209],
-    [308, 588, 268, 380, 678, 448],
-    [520, 58, 652, 267, 527, 117],
-    [375, 214, 675, 651, 416, 550],
+// What each symbol of a card adds to the spectrum: a row of packed digits for each of its digits.
+const SYMBOL_0: [[u64; 4]; 6] = [
+    [
+        0x2000810408000,
+        0x4000810204100,
+        0x4040800404002,
+        0x102041020008001,
+    ],
+    [
+        0x2040800408081,
+        0x200040810008080,
+        0x80000208001,
+        0x104080810200000,
+    ],
+    [
+        0x200080000400101,
+        0x41020404100,
+        0x4000010400080,
+        0x200040020200000,
+    ],
+    [
+        0x200040020008080,
+        0x2081020008082,
+        0x200000820004000,
+        0x400000,
+    ],
+    [
+        0x100081000404000,
+        0x104081000004082,
+        0x1010208081,
+        0x20000002,
+    ],
+    [
+        0x200040010204102,
+        0x200081010204001,
+        0x800408002,
+        0x1000000100,
+    ],
 ];
 
-pub(crate) fn spectrum(c: [u16; 6], logs: &[u16; 729], powers: &[u16; 728]) -> [u16; 6]
-    requires { ⌜ Tables (now logs) (now powers) ⌝ }
+const SYMBOL_1: [[u64; 4]; 6] = [
+    [
+        0x4080820004100,
+        0x2080810400001,
+        0x2041010008080,
+        0x4041020200002,
+    ],
+    [
+        0x204001010204081,
+        0x104040820000080,
+        0x102000820408102,
+        0x202081010000100,
+    ],
+    [
+        0x200000800208002,
+        0x204040810204002,
+        0x100001000404001,
+        0x102081020408001,
+    ],
+    [
+        0x202040020408001,
+        0x200041000400002,
+        0x104080010204002,
+        0x100080800200001,
+    ],
+    [
+        0x102001020400080,
+        0x80810400102,
+        0x204000810200100,
+        0x41020200081,
+    ],
+    [
+        0x100001010008102,
+        0x4040820008101,
+        0x200000820004081,
+        0x2081010004082,
+    ],
+];
+
+const SYMBOL_2: [[u64; 4]; 6] = [
+    [
+        0x4081000004082,
+        0x102080000004080,
+        0x2040800008101,
+        0x204040000008100,
+    ],
+    [
+        0x100040020208082,
+        0x100001010204080,
+        0x200080010404101,
+        0x200000820408100,
+    ],
+    [
+        0x204041010404100,
+        0x2080020204081,
+        0x102080820208080,
+        0x4040010408102,
+    ],
+    [
+        0x104040810200102,
+        0x104001010004102,
+        0x202081020400081,
+        0x202000820008081,
+    ],
+    [
+        0x104040820004001,
+        0x202080010208001,
+        0x202081010008002,
+        0x104040020404002,
+    ],
+    [
+        0x81010208101,
+        0x102001000400001,
+        0x40820404082,
+        0x204000800200002,
+    ],
+];
+
+const SYMBOL_3: [[u64; 4]; 6] = [
+    [
+        0x102041020200002,
+        0x102000020208000,
+        0x204000810400002,
+        0x204000010004000,
+    ],
+    [
+        0x200081000004082,
+        0x102000820200101,
+        0x102040800008001,
+        0x204001020400082,
+    ],
+    [
+        0x4000020208082,
+        0x102040820208082,
+        0x102000010408101,
+        0x204080010404101,
+    ],
+    [
+        0x4081010404100,
+        0x104040820204080,
+        0x2040820408080,
+        0x202001010408101,
+    ],
+    [
+        0x100040810200102,
+        0x204040820204080,
+        0x200081000400081,
+        0x104081010408000,
+    ],
+    [
+        0x204040820004001,
+        0x200040000404081,
+        0x102080010008002,
+        0x200080000200102,
+    ],
+];
+
+const SYMBOL_4: [[u64; 4]; 6] = [
+    [
+        0x204040000400101,
+        0x100001000000102,
+        0x102081020200080,
+        0x104000800408001,
+    ],
+    [
+        0x202000020008080,
+        0x2081010208102,
+        0x202081000008102,
+        0x202041000200001,
+    ],
+    [
+        0x204081000404000,
+        0x104080810008082,
+        0x104000020400082,
+        0x100080800400082,
+    ],
+    [
+        0x2080010204102,
+        0x200040010204082,
+        0x200001020004100,
+        0x41000204101,
+    ],
+    [
+        0x40810208100,
+        0x1000404000,
+        0x202041020200102,
+        0x2080010008102,
+    ],
+    [
+        0x204040820404081,
+        0x80020000080,
+        0x200081000000082,
+        0x104000800008082,
+    ],
+];
+
+const SYMBOL_5: [[u64; 4]; 6] = [
+    [
+        0x200040800408081,
+        0x4041000408082,
+        0x100000820204101,
+        0x200080800200081,
+    ],
+    [
+        0x100080000400101,
+        0x202080020004082,
+        0x1020204101,
+        0x2040800404081,
+    ],
+    [
+        0x200040020008080,
+        0x102000020404001,
+        0x202041000200002,
+        0x102040020004100,
+    ],
+    [
+        0x204041000404000,
+        0x102000800200102,
+        0x4040000004082,
+        0x104000810208082,
+    ],
+    [
+        0x202000010204102,
+        0x102041020208102,
+        0x80000204100,
+        0x202040020204080,
+    ],
+    [
+        0x204080810208100,
+        0x104080820208082,
+        0x200040010208000,
+        0x100000000404080,
+    ],
+];
+
+pub(crate) fn spectrum(c: [u16; 6]) -> [u16; 6]
     ensures { λ r. ⌜ r ≡ table 6 (spectrum c) ⌝ }
 {
-    let rows = DUAL;
-    [
-        inner_product(c, rows[0], logs, powers),
-        inner_product(c, rows[1], logs, powers),
-        inner_product(c, rows[2], logs, powers),
-        inner_product(c, rows[3], logs, powers),
-        inner_product(c, rows[4], logs, powers),
-        inner_product(c, rows[5], logs, powers),
-    ]
+    let s0 = gathered([0u64; 4], digits(c[0]), SYMBOL_0);
+    let s1 = gathered(s0, digits(c[1]), SYMBOL_1);
+    let s2 = gathered(s1, digits(c[2]), SYMBOL_2);
+    let s3 = gathered(s2, digits(c[3]), SYMBOL_3);
+    let s4 = gathered(s3, digits(c[4]), SYMBOL_4);
+    let s5 = gathered(s4, digits(c[5]), SYMBOL_5);
+    settled(s5)
 }
 
 // The message of a word for k, in the first 2k places.
-pub(crate) fn message_of(k: usize, w: [u16; 6], logs: &[u16; 729], powers: &[u16; 728]) -> [u16; 10]
-    requires { ⌜ (1 ≤ k) × (k ≤ 5) × Tables (now logs) (now powers) ⌝ }
+pub(crate) fn message_of(k: usize, w: [u16; 6]) -> [u16; 10]
+    requires { ⌜ (1 ≤ k) × (k ≤ 5) ⌝ }
     ensures { λ r. ⌜ take (2 * k) r ≡ message-of k w ⌝ }
 {
-    let r = spectrum(w, logs, powers);
+    let r = spectrum(w);
     let mut m = [
         field::low(r[0]),
         field::low(r[1]),

@@ -37,7 +37,7 @@ fn weighted(k: usize, c: [u16; 6], logs: &[u16; 729], powers: &[u16; 728]) -> [u
     requires { ⌜ (1 ≤ k) × (k ≤ 5) × Tables (now logs) (now powers) ⌝ }
     ensures { λ r. ⌜ r ≡ table 6 (λ i. P i (mu k) c) ⌝ }
 {
-    let r = spectrum(c, logs, powers);
+    let r = spectrum(c);
     let xi = XI;
     let n = 6 - k;
     [
