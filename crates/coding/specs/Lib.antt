@@ -32,3 +32,4 @@ pub mod LowRank
 -- Linear functions by packed digits
 pub mod Packed
 pub mod Transforms
+pub mod Slots
