@@ -6,7 +6,6 @@ pub mod Refusals
 pub mod Filling
 pub mod Arrays
 pub mod Packed
-pub mod Words
 pub mod Messages
 -- Decoding as the code goes
 pub mod Steps

@@ -116,7 +116,7 @@ fn attempt(card: [u16; 6], s: Shared, a: u16, logs: &[u16; 729], powers: &[u16; 
     let third = field::high(f);
     let fourth = field::low(field::cube(v));
     let message = [a, second, third, fourth, 0, 0, 0, 0, 0, 0];
-    near(card, 2, message, logs, powers)
+    near(card, 2, message)
 }
 
 // The next coefficient of an error of rank 1.
@@ -151,7 +151,7 @@ pub(crate) fn decode_two(card: [u16; 6], logs: &[u16; 729], powers: &[u16; 728])
     let r = spectrum(card);
     let key = key_of(r, logs, powers);
     if key == 0 {
-        return near(card, 2, single(r, logs, powers), logs, powers);
+        return near(card, 2, single(r, logs, powers));
     }
     let s = prepare(r, key, logs, powers);
     let mut a: u16 = 0;

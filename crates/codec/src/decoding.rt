@@ -51,14 +51,8 @@ pub(crate) fn nothing() -> Found
 }
 
 // A message with its word, where that is within the radius of the card.
-pub(crate) fn near(
-    card: [u16; 6],
-    k: usize,
-    message: [u16; 10],
-    logs: &[u16; 729],
-    powers: &[u16; 728],
-) -> Found
-    requires { ⌜ (1 ≤ k) × (k ≤ 5) × (is-message k (take (2 * k) message) ≡ true) × Tables (now logs) (now powers) ⌝ }
+pub(crate) fn near(card: [u16; 6], k: usize, message: [u16; 10]) -> Found
+    requires { ⌜ (1 ≤ k) × (k ≤ 5) × (is-message k (take (2 * k) message) ≡ true) ⌝ }
     ensures { λ r. ⌜ (answer k r ≡ if-near k card (take (2 * k) message)) × Whole k card r ⌝ }
 {
     let word = word_of(k, message);
@@ -84,7 +78,7 @@ fn leaf_of(card: [u16; 6], k: usize, s: State, logs: &[u16; 729], powers: &[u16;
     if (6 - k) / 2 < (weight as usize) {
         return nothing();
     }
-    near(card, k, message_of(k, word), logs, powers)
+    near(card, k, message_of(k, word))
 }
 
 // The state with the relation of column p to the combination i of the free columns.

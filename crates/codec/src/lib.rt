@@ -6,6 +6,7 @@ mod interpolation;
 mod lists;
 mod packed;
 mod refusals;
+mod slots;
 mod spectrum;
 mod syndromes;
 mod vectors;

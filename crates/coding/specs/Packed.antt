@@ -252,9 +252,10 @@ unfoldable pub after : (f : (s j : ℕ) → ℕ → ℕ) → (xs : List ℕ) →
 after f xs zero = 0 ∷ 0 ∷ 0 ∷ 0 ∷ []
 after f xs (suc n) = gather (after f xs n) (digits (getD xs n 0)) (rows (f n))
 
-pub after-next : (f : (s j : ℕ) → ℕ → ℕ) (xs : List ℕ) (n : ℕ) (a b : List ℕ) → a ≡ after f xs n → b ≡ gather a (digits (getD xs n 0)) (rows (f n)) → b ≡ after f xs (suc n)
+pub after-next : (f : (s j : ℕ) → ℕ → ℕ) (xs : List ℕ) (n : ℕ) (a b d : List ℕ) (r : List (List ℕ)) → a ≡ after f xs n → d ≡ digits (getD xs n 0) → r ≡ rows (f n)
+    → b ≡ gather a d r → b ≡ after f xs (suc n)
 unfolding after
-after-next f xs n a b e h = rw (h, e)
+after-next f xs n a b d r e k l h = rw (h, e, k, l)
 
 module _ (f : (s j : ℕ) → ℕ → ℕ) (l : (s j : ℕ) → Linear (f s j)) (t : any-above 63 (most f) ≡ false) (xs : List ℕ) where
   count : (k : ℕ) → ℕ

@@ -18,7 +18,7 @@ use Rattle.algebra.specs.Sums.{add-swap}
 use Rattle.algebra.specs.Linear.{Linear, at-zero, composed, summed, none-linear, combination, combination-linear, computing, agree}
 use Rattle.algebra.specs.Products.{left, right, times-assoc, risen-linear}
 use Rattle.algebra.specs.SmallField.{low, low-linear, low-below, fixed-small, small-back}
-use Rattle.algebra.specs.Totals.{total, total-none}
+use Rattle.algebra.specs.Totals.{total, total-same, total-none}
 use Rattle.rank.specs.Definitions.{at}
 use Rattle.coding.specs.Code.{trace, P, pairs-from, test-values}
 use Rattle.coding.specs.Spectrum.{delta, risen-delta, spectrum}
@@ -79,12 +79,31 @@ xi-table = one-to-five _ refl refl refl refl refl
 xi-is : (k : ℕ) → 1 ≤ k → k ≤ 5 → (i : ℕ) → i < 6 → xi (6 - k + i) ≡ risen i (risen (6 - k) 377)
 xi-is k p q i h = sym (at-table 6 _ i h) ∙ ap (λ (l : List ℕ). getD l i 0) (sym (xi-table k p q)) ∙ at-table 6 _ i h
 
--- a slot's two coefficients of the spectrum, and their factors
+-- gamma and its 3^j-th powers, and those of delta
+unfoldable pub gamma-power : (j : ℕ) → ℕ
+gamma-power j = getD (3 ∷ 27 ∷ 93 ∷ 655 ∷ 702 ∷ 593 ∷ []) j 0
+
+gamma-is : (k : ℕ) → 1 ≤ k → k ≤ 5 → gamma-power (6 - k) ≡ risen (6 - k) gamma
+unfolding computing gamma-power
+gamma-is = one-to-five _ refl refl refl refl refl
+
+unfoldable pub delta-power : (s i : ℕ) → ℕ
+delta-power s i = getD (396 ∷ 420 ∷ 500 ∷ 677 ∷ 61 ∷ 319 ∷ 408 ∷ 35 ∷ 332 ∷ 499 ∷ 241 ∷ 640 ∷ 175 ∷ 149 ∷ 378 ∷ 331 ∷ 261 ∷ 209 ∷ 308 ∷ 588 ∷ 268 ∷ 380 ∷ 678 ∷ 448 ∷ 520 ∷ 58 ∷ 652 ∷ 267 ∷ 527 ∷ 117 ∷ 375 ∷ 214 ∷ 675 ∷ 651 ∷ 416 ∷ 550 ∷ []) (6 * i + s) 0
+
+delta-test : every 6 (λ i. every 6 (λ s. eqb (delta-power s i) (risen-delta s i))) ≡ true
+unfolding computing delta-power risen-delta delta at
+delta-test = refl
+
+spectrum-is : (c : List ℕ) (i : ℕ) → i < 6 → total 6 0 (λ s. times (getD c s 0) (delta-power s i)) ≡ spectrum c i
+unfolding spectrum at
+spectrum-is c i h = total-same 6 0 _ _ (λ s p q. ap (times (getD c s 0)) (tested-2 6 6 (λ i s. delta-power s i) (λ i s. risen-delta s i) delta-test i s h (omega arith)))
+
+-- a slot's two coefficients of the spectrum, and the factor of the first
 unfoldable pub low-index : (k j : ℕ) → ℕ
 low-index k j = cond (eqb (j + k) 5) 0 (5 - j)
 
 unfoldable pub low-factor : (k j : ℕ) → ℕ
-low-factor k j = cond (eqb (j + k) 5) (times (risen (6 - k) gamma) (xi (6 - k + 0))) (times gamma (xi (6 - k + (5 - j))))
+low-factor k j = times (cond (eqb (j + k) 5) (gamma-power (6 - k)) gamma) (xi (6 - k + low-index k j))
 
 unfoldable pub high-index : (k j : ℕ) → ℕ
 high-index k j = cond (eqb j 0) k (6 - j)
@@ -94,7 +113,7 @@ two-traces f a g b = add (trace-number (times f a)) (upper (trace-number (times 
 
 unfoldable pub slot-map : (k s j x : ℕ) → ℕ
 slot-map k s j x = cond (ltb 5 (j + k)) 0
-    (two-traces (low-factor k j) (times x (risen-delta s (low-index k j))) (xi (6 - k + high-index k j)) (times x (risen-delta s (high-index k j))))
+    (two-traces (low-factor k j) (times x (delta-power s (low-index k j))) (xi (6 - k + high-index k j)) (times x (delta-power s (high-index k j))))
 
 unfoldable pub slot : (k : ℕ) → (card : List ℕ) → (j : ℕ) → ℕ
 slot k c j = cond (ltb 5 (j + k)) 0
@@ -113,10 +132,10 @@ high-part g = composed upper-linear (low-part g)
 slot-linear : (k s j : ℕ) → Linear (slot-map k s j)
 unfolding slot-map two-traces
 slot-linear k s j = chosen (ltb 5 (j + k))
-    (summed (composed (low-part (low-factor k j)) (left (risen-delta s (low-index k j)))) (composed (high-part (xi (6 - k + high-index k j))) (left (risen-delta s (high-index k j)))))
+    (summed (composed (low-part (low-factor k j)) (left (delta-power s (low-index k j)))) (composed (high-part (xi (6 - k + high-index k j))) (left (delta-power s (high-index k j)))))
 
 fits : (k : ℕ) → 1 ≤ k → k ≤ 5 → any-above 63 (most (slot-map k)) ≡ false
-unfolding computing any-above most flat plus piled slot-map two-traces low-factor low-index high-index xi upper trace-number risen-delta delta at
+unfolding computing any-above most flat plus piled slot-map two-traces low-factor low-index high-index xi gamma-power delta-power upper trace-number
 fits = one-to-five _ refl refl refl refl refl
 
 -- SUMS of slots are slots of sums
@@ -127,18 +146,42 @@ two-total f g a b (suc n) s =
     ap (add _) (two-total f g a b n (suc s)) ∙ add-swap _ _ _ _
     ∙ ap₂ add (sym (low-part f .sum (a s) (total n (suc s) a))) (sym (high-part g .sum (b s) (total n (suc s) b)))
 
-slot-total : (k : ℕ) (c : List ℕ) (j : ℕ) → total 6 0 (λ s. slot-map k s j (getD c s 0)) ≡ slot k c j
-unfolding slot-map slot spectrum at
-slot-total k c j = go (ltb 5 (j + k))
+low-index-below : (k j : ℕ) → low-index k j < 6
+unfolding low-index
+low-index-below k j = go (eqb (j + k) 5)
   where
-    go : (b : Bool) → total 6 0 (λ s. cond b 0 (two-traces (low-factor k j) (times (getD c s 0) (risen-delta s (low-index k j))) (xi (6 - k + high-index k j))
-        (times (getD c s 0) (risen-delta s (high-index k j))))) ≡ cond b 0 (two-traces (low-factor k j) (spectrum c (low-index k j)) (xi (6 - k + high-index k j)) (spectrum c (high-index k j)))
+    go : (b : Bool) → cond b 0 (5 - j) < 6
+    go true = lit< tt
+    go false = omega arith
+
+high-index-below : (k j : ℕ) → k ≤ 5 → high-index k j < 6
+unfolding high-index
+high-index-below k zero h = omega arith
+high-index-below k (suc j) h = rw (ne-eqb (suc j) 0 (λ e. omega arith)) (omega arith)
+
+slot-total : (k : ℕ) → k ≤ 5 → (c : List ℕ) (j : ℕ) → total 6 0 (λ s. slot-map k s j (getD c s 0)) ≡ slot k c j
+unfolding slot-map slot
+slot-total k h c j = go (ltb 5 (j + k))
+  where
+    f : ℕ
+    f = low-factor k j
+
+    g : ℕ
+    g = xi (6 - k + high-index k j)
+
+    at-low : ℕ → ℕ
+    at-low s = times (getD c s 0) (delta-power s (low-index k j))
+
+    at-high : ℕ → ℕ
+    at-high s = times (getD c s 0) (delta-power s (high-index k j))
+
+    go : (b : Bool) → total 6 0 (λ s. cond b 0 (two-traces f (at-low s) g (at-high s))) ≡ cond b 0 (two-traces f (spectrum c (low-index k j)) g (spectrum c (high-index k j)))
     go true = total-none 6 0 _ (λ i p q. refl)
-    go false = two-total (low-factor k j) (xi (6 - k + high-index k j)) (λ s. times (getD c s 0) (risen-delta s (low-index k j)))
-        (λ s. times (getD c s 0) (risen-delta s (high-index k j))) 6 0
+    go false = two-total f g at-low at-high 6 0
+        ∙ ap₂ (λ (a b : ℕ). two-traces f a g b) (spectrum-is c (low-index k j) (low-index-below k j)) (spectrum-is c (high-index k j) (high-index-below k j h))
 
 pub slot-mapped : (k : ℕ) → 1 ≤ k → k ≤ 5 → (c : List ℕ) → settle (after (slot-map k) c 6) ≡ table 6 (slot k c)
-slot-mapped k p q c = mapped (slot-map k) (slot-linear k) (fits k p q) c ∙ table-same 6 _ _ (λ j h. slot-total k c j)
+slot-mapped k p q c = mapped (slot-map k) (slot-linear k) (fits k p q) c ∙ table-same 6 _ _ (λ j h. slot-total k q c j)
 
 -- THE TWO VALUES of a slot
 two-is : (f a g b : ℕ) → two-traces f a g b ≡ small-of (trace (times f a)) + 27 * small-of (trace (times g b))
@@ -165,7 +208,7 @@ module _ (k : ℕ) (p : 1 ≤ k) (q : k ≤ 5) (c : List ℕ) where
   unfolding low-factor low-index
   low-first j h =
       ap (λ (n : ℕ). n % 27) (slot-is j (omega arith)) ∙ two-low _ _ _ _
-      ∙ rw (eq-eqb (j + k) 5 h) (ap (λ (x : ℕ). small-of (trace x)) (times-assoc _ _ _ ∙ ap (times (risen (6 - k) gamma)) (weighted-is 0 (omega arith))))
+      ∙ rw (eq-eqb (j + k) 5 h, gamma-is k p q) (ap (λ (x : ℕ). small-of (trace x)) (times-assoc _ _ _ ∙ ap (times (risen (6 - k) gamma)) (weighted-is 0 (omega arith))))
 
   pub low-pair : (j : ℕ) → j + k < 5 → slot k c j % 27 ≡ small-of (trace (times gamma (P (5 - j) (mu k) c)))
   unfolding low-factor low-index

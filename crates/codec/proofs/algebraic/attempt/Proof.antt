@@ -40,7 +40,7 @@ near-requires c κs =
     let f = middle-is (spectrum (s .args .card)) (s .args .s) (s .pre .1) (s .args .a) _ _ _ _ _ _ (b .before .small-symbol .ensures) (b .difference .ensures)
     (d .before .product-with .ensures) (d .difference2 .ensures) (t .before .before .product-with2 .ensures) (t .before .difference3 .ensures) _ (m .middle .ensures) in
     let p = proposed-is (spectrum (s .args .card)) (s .args .a) _ _ _ _ _ v f (o .low .ensures) (n .high2 .ensures) (l .low2 .ensures ∙ ap low (l .before .cube .ensures)) in
-    (lit≤ tt, lit≤ tt, ap (is-message 2) p ∙ proposed-message (spectrum (s .args .card)) (s .args .a) (s .pre .0), s .pre .2)
+    (lit≤ tt, lit≤ tt, ap (is-message 2) p ∙ proposed-message (spectrum (s .args .card)) (s .args .a) (s .pre .0))
 
 returns-2 : tie.Need-returns-2
 returns-2 c =

@@ -20,7 +20,7 @@ abbrev μ-loop : tie.MeasureT-loop
 μ-loop card logs powers k s a₀ a = 27 - a
 
 near-requires : tie.Need-near-requires Inv-loop μ-loop
-near-requires c κs = (lit≤ tt, lit≤ tt, rw (c .single .ensures) (single-message (at _)), c .before .before .before .before .pre .1)
+near-requires c κs = (lit≤ tt, lit≤ tt, rw (c .single .ensures) (single-message (at _)))
 
 returns : tie.Need-returns Inv-loop μ-loop
 returns c =

@@ -24,7 +24,7 @@ returns c =
 near-requires : tie.Need-near-requires
 near-requires c κs =
     let s = c .before .before .before .before .before in
-    (omega arith, omega arith, rw (c .message-of .ensures) (is-message-of (s .args .k) (omega arith) (omega arith) _), s .pre .2)
+    (omega arith, omega arith, rw (c .message-of .ensures) (is-message-of (s .args .k) (omega arith) (omega arith) _))
 
 returns-2 : tie.Need-returns-2
 unfolding apart

@@ -33,7 +33,7 @@ unfolding after
 returns c =
     let n = c .before .before .before .before .before .before .before in
     let x = n .numbers .result in
-    c .settled .ensures ∙ ap settle (after-next word-map x 5 _ _ (after-next word-map x 4 _ _ (after-next word-map x 3 _ _ (after-next word-map x 2 _ _ (after-next word-map x 1 _ _ (after-next word-map x 0 _ _ refl (c .before .before .before .before .before .before .with-0 .ensures .0)) (c .before .before .before .before .before .with-1 .ensures .0)) (c .before .before .before .before .with-2 .ensures .0)) (c .before .before .before .with-3 .ensures .0)) (c .before .before .with-4 .ensures .0)) (c .before .with-5 .ensures .0))
+    c .settled .ensures ∙ ap settle (after-next word-map x 5 _ _ _ _ (after-next word-map x 4 _ _ _ _ (after-next word-map x 3 _ _ _ _ (after-next word-map x 2 _ _ _ _ (after-next word-map x 1 _ _ _ _ (after-next word-map x 0 _ _ _ _ refl refl refl (c .before .before .before .before .before .before .with-0 .ensures .0)) refl refl (c .before .before .before .before .before .with-1 .ensures .0)) refl refl (c .before .before .before .before .with-2 .ensures .0)) refl refl (c .before .before .before .with-3 .ensures .0)) refl refl (c .before .before .with-4 .ensures .0)) refl refl (c .before .with-5 .ensures .0))
     ∙ ap (λ (xs : List ℕ). settle (after word-map xs 6)) (n .numbers .ensures) ∙ word-mapped (n .before .args .k) (n .before .pre .0) (n .before .pre .1) (n .before .args .m)
 
 pub word-of-spec : {M : Type 1} → statement M

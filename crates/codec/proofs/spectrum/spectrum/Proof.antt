@@ -6,11 +6,11 @@ use Rattle.algebra.specs.Lists.{table}
 use Rattle.algebra.specs.Tests.{any-above}
 use Rattle.algebra.specs.Linear.{computing}
 use Rattle.field.specs.Sums.{zeros}
-use Rattle.coding.specs.Packed.{packed, held, flat, row, rows, rows-above, settle, after}
+use Rattle.coding.specs.Packed.{packed, held, flat, row, rows, rows-above, settle, after, after-next}
 use Rattle.rank.specs.Definitions.{at}
 use Rattle.coding.specs.Spectrum.{delta, risen-delta}
 use Rattle.coding.specs.Transforms.{spectrum-map, spectrum-mapped}
-use Rattle.codec.specs.Packed.{digits-small, next}
+use Rattle.codec.specs.Packed.{digits-small}
 use Rattle.codec.proofs.spectrum.spectrum.Statement.{statement}
 use Rattle.codec.proofs.spectrum.spectrum.Tie as tie
 
@@ -42,7 +42,7 @@ returns : tie.Need-returns
 unfolding computing rows row flat held packed table after spectrum-map risen-delta delta at
 returns c =
     let s = c .before .before .before .before .before .before .before .before .before .before .before .before .before in
-    c .settled .ensures ∙ ap settle (next spectrum-map (s .args .t1) 5 _ _ _ _ (next spectrum-map (s .args .t1) 4 _ _ _ _ (next spectrum-map (s .args .t1) 3 _ _ _ _ (next spectrum-map (s .args .t1) 2 _ _ _ _ (next spectrum-map (s .args .t1) 1 _ _ _ _ (next spectrum-map (s .args .t1) 0 _ _ _ _ refl (c .before .before .before .before .before .before .before .before .before .before .before .before .digits .ensures) refl (c .before .before .before .before .before .before .before .before .before .before .before .gathered .ensures .0)) (c .before .before .before .before .before .before .before .before .before .before .digits2 .ensures) refl (c .before .before .before .before .before .before .before .before .before .gathered2 .ensures .0)) (c .before .before .before .before .before .before .before .before .digits3 .ensures) refl (c .before .before .before .before .before .before .before .gathered3 .ensures .0)) (c .before .before .before .before .before .before .digits4 .ensures) refl (c .before .before .before .before .before .gathered4 .ensures .0)) (c .before .before .before .before .digits5 .ensures) refl (c .before .before .before .gathered5 .ensures .0)) (c .before .before .digits6 .ensures) refl (c .before .gathered6 .ensures .0)) ∙ spectrum-mapped (s .args .t1)
+    c .settled .ensures ∙ ap settle (after-next spectrum-map (s .args .t1) 5 _ _ _ _ (after-next spectrum-map (s .args .t1) 4 _ _ _ _ (after-next spectrum-map (s .args .t1) 3 _ _ _ _ (after-next spectrum-map (s .args .t1) 2 _ _ _ _ (after-next spectrum-map (s .args .t1) 1 _ _ _ _ (after-next spectrum-map (s .args .t1) 0 _ _ _ _ refl (c .before .before .before .before .before .before .before .before .before .before .before .before .digits .ensures) refl (c .before .before .before .before .before .before .before .before .before .before .before .gathered .ensures .0)) (c .before .before .before .before .before .before .before .before .before .before .digits2 .ensures) refl (c .before .before .before .before .before .before .before .before .before .gathered2 .ensures .0)) (c .before .before .before .before .before .before .before .before .digits3 .ensures) refl (c .before .before .before .before .before .before .before .gathered3 .ensures .0)) (c .before .before .before .before .before .before .digits4 .ensures) refl (c .before .before .before .before .before .gathered4 .ensures .0)) (c .before .before .before .before .digits5 .ensures) refl (c .before .before .before .gathered5 .ensures .0)) (c .before .before .digits6 .ensures) refl (c .before .gathered6 .ensures .0)) ∙ spectrum-mapped (s .args .t1)
 
 pub spectrum-spec : {M : Type 1} → statement M
 spectrum-spec =
