@@ -2,7 +2,6 @@
 // rests of the counts by 3 are taken once, at the end. Rows are given as constants, so that products with them need no table. Assumes nothing.
 ghost use mathlib.Core.Path.{_≡_};
 ghost use mathlib.Core.Bool.{false};
-ghost use mathlib.Core.List.{[]};
 ghost use Prim.Native.Nat.{ℕ, _+_, _≤_};
 ghost use lib.ListN.{getD};
 ghost use Rattle.algebra.specs.Field.{digits};

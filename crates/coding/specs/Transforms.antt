@@ -9,7 +9,7 @@ use native.Mathlib.Omega.{arith}
 use lib.Dec.{ltb, eqb, lit<}
 use lib.ListN.{getD, take}
 use lib.Seq.{getD-take}
-use Rattle.algebra.specs.Field.{digits, add, times, power, risen, small, gamma}
+use Rattle.algebra.specs.Field.{add, times, power, risen, small, gamma}
 use Rattle.algebra.specs.Lists.{table, table-same}
 use Rattle.algebra.specs.Tests.{any-above, one-to-five}
 use Rattle.algebra.specs.Linear.{Linear, composed, summed, computing, by-test}
