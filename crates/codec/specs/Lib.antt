@@ -4,8 +4,6 @@ pub mod Answers
 pub mod Refusals
 -- The code's arrays
 pub mod Filling
-pub mod Arrays
-pub mod Words
-pub mod Messages
+pub mod Packed
 -- The starred cases of document 01
 pub mod Cases

@@ -2,10 +2,11 @@
 // cards begin with. Decoding stands in a crate above.
 mod encoding;
 mod lists;
+mod packed;
 mod refusals;
+mod slots;
 mod spectra;
 mod syndromes;
-mod vectors;
 
 pub use encoding::encode;
 pub use encoding::word_of;

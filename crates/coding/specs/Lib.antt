@@ -33,3 +33,7 @@ pub mod DecodeTwo
 pub mod DecodeOne
 -- Cards of low rank
 pub mod LowRank
+-- Linear functions by packed digits
+pub mod Packed
+pub mod Transforms
+pub mod Slots

@@ -19,36 +19,36 @@ returns c =
 
 loaded-requires : tie.Need-loaded-requires
 loaded-requires c κs =
-    let t = c .before .before .before .before in
+    let t = c .before .before in
     let s = t .before .before .before in
-    let (p, q, l, w) = encode-passed (s .args .k) (now (s .args .message)) _ (no-refusal _ _ (t .encode-tests .ensures) (c .before .before .enum-told .given .1)) in
+    let (p, q, l, w) = encode-passed (s .args .k) (now (s .args .message)) _ (no-refusal _ _ (t .encode-tests .ensures) (c .enum-told .given .1)) in
     omega (arith, q, l)
 
-word-of-with-requires : tie.Need-word-of-with-requires
-word-of-with-requires c κs =
-    let t = c .before .before .before .before .before .before .before in
+word-of-requires : tie.Need-word-of-requires
+word-of-requires c κs =
+    let t = c .before .before .before in
     let s = t .before .before .before in
-    let (p, q, l, w) = encode-passed (s .args .k) (now (s .args .message)) _ (no-refusal _ _ (t .encode-tests .ensures) (c .before .before .before .before .before .enum-told .given .1)) in
-    (p, q, record { logs = c .before .before .before .before .logs .ensures; powers = c .before .before .before .powers .ensures })
+    let (p, q, l, w) = encode-passed (s .args .k) (now (s .args .message)) _ (no-refusal _ _ (t .encode-tests .ensures) (c .before .enum-told .given .1)) in
+    (p, q)
 
 fill-requires : tie.Need-fill-requires
 fill-requires c κs =
-    let t = c .before .before .before .before .before .before .before .before .before .before in
+    let t = c .before .before .before .before .before .before in
     let s = t .before .before .before in
-    let (p, q, l, w) = encode-passed (s .args .k) (now (s .args .message)) _ (no-refusal _ _ (t .encode-tests .ensures) (c .before .before .before .before .before .before .before .before .enum-told .given .1)) in
+    let (p, q, l, w) = encode-passed (s .args .k) (now (s .args .message)) _ (no-refusal _ _ (t .encode-tests .ensures) (c .before .before .before .before .enum-told .given .1)) in
     omega (arith, w)
 
 returns-2 : tie.Need-returns-2
 returns-2 c =
     let f = c .before .before in
     let v = f .before .before .before in
-    let e = v .before .before .before .before .before .before in
+    let e = v .before .before in
     let t = e .before .before in
     let s = t .before .before .before in
     let (p, q, l, w) = encode-passed (s .args .k) (now (s .args .message)) _ (no-refusal _ _ (t .encode-tests .ensures) (e .enum-told .given .1)) in
     encoded-done (s .args .k) (now (s .args .message)) (now (s .args .word)) _ (t .encode-tests .ensures) (e .enum-told .given .1) _
-    (f .fill .ensures ∙ ap (λ (n : ℕ). take n (v .word-of-with .result)) w ∙ take-all 6 _ (omega arith) ∙ v .word-of-with .ensures
-    ∙ ap (word (s .args .k)) (ap (λ (n : ℕ). take n (v .before .before .before .loaded .result)) (sym l) ∙ v .before .before .before .loaded .ensures))
+    (f .fill .ensures ∙ ap (λ (n : ℕ). take n (v .word-of .result)) w ∙ take-all 6 _ (omega arith) ∙ v .word-of .ensures
+    ∙ ap (word (s .args .k)) (ap (λ (n : ℕ). take n (v .before .loaded .result)) (sym l) ∙ v .before .loaded .ensures))
 
 pub encode-spec : {M : Type 1} → statement M
 encode-spec =
@@ -58,10 +58,8 @@ encode-spec =
     (λ c. search needs)
     returns
     (λ c. search needs)
-    (λ c κs. search needs)
-    (λ c κs. search needs)
     loaded-requires
-    word-of-with-requires
+    word-of-requires
     (λ c. search needs)
     fill-requires
     (λ c. search needs)

@@ -7,15 +7,13 @@ use Rattle.codec.proofs.syndromes.values_list.Tie as tie
 
 returns : tie.Need-returns
 returns c =
-    let s = c .before .before .before .before .before .before .before .before .before .before .before .before in
+    let s = c .before .before .before .before .before .before .before .before in
     rw (six (now (s .args .card)) (s .pre .2)) at (c .values-of .ensures)
 
 pub values-list-spec : {M : Type 1} → statement M
 values-list-spec =
     tie.close
     (tie.spec
-    (λ c κs. search needs)
-    (λ c κs. search needs)
     (λ c. search needs)
     (λ c. search needs)
     (λ c. search needs)

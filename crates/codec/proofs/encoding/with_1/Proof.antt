@@ -1,0 +1,30 @@
+-- `codec::encoding::with_1` meets its contract: the digits times their rows, which are computed, once. Assumes nothing.
+use mathlib.Core.Path.{refl, ap₂, _∙_}
+use borrow.Author.Needs.{needs}
+use Rattle.algebra.specs.Field.{power}
+use Rattle.algebra.specs.Lists.{table}
+use Rattle.algebra.specs.Tests.{any-above}
+use Rattle.algebra.specs.Linear.{computing}
+use Rattle.algebra.specs.SmallField.{pair}
+use Rattle.coding.specs.Spectrum.{risen-z}
+use Rattle.coding.specs.Packed.{packed, held, flat, row, rows, rows-above, gather}
+use Rattle.coding.specs.Transforms.{coefficient-of, word-map}
+use Rattle.codec.specs.Packed.{digits-small}
+use Rattle.codec.proofs.encoding.with_1.Statement.{statement}
+use Rattle.codec.proofs.encoding.with_1.Tie as tie
+
+gathered-requires : tie.Need-gathered-requires
+unfolding rows-above any-above
+gathered-requires c κs = (c .before .pre, digits-small _ _ (c .digits .ensures), refl)
+
+returns : tie.Need-returns
+unfolding computing rows row flat held packed table word-map risen-z coefficient-of pair power
+returns c = (c .gathered .ensures .0 ∙ ap₂ (gather (c .before .before .args .a)) (c .before .digits .ensures) refl, c .gathered .ensures .1)
+
+pub with-1-spec : {M : Type 1} → statement M
+with-1-spec =
+    tie.close
+    (tie.spec
+    (λ c κs. search needs)
+    gathered-requires
+    returns)

@@ -1,0 +1,24 @@
+-- `codec::packed::digits` meets its contract: each digit is a quotient less three times the next. Assumes nothing.
+use borrow.Author.Needs.{needs}
+use Rattle.codec.specs.Packed.{digits-are}
+use Rattle.codec.proofs.packed.digits.Statement.{statement}
+use Rattle.codec.proofs.packed.digits.Tie as tie
+
+returns : tie.Need-returns
+returns c = digits-are (c .args .x)
+
+pub digits-spec : {M : Type 1} → statement M
+digits-spec =
+    tie.close
+    (tie.spec
+    (λ c. search needs)
+    (λ c. search needs)
+    (λ c. search needs)
+    (λ c. search needs)
+    (λ c. search needs)
+    (λ c. search needs)
+    (λ c. search needs)
+    (λ c. search needs)
+    (λ c. search needs)
+    (λ c. search needs)
+    returns)
