@@ -5,7 +5,7 @@
 -- definitions.
 use mathlib.Core.Bool.{Bool, true, false, cond}
 use mathlib.Core.List.{List, [], _∷_, map}
-use Prim.Native.Nat.{ℕ, zero, suc, _+_, _*_, _-_, _/_, _%_, _^_}
+use Prim.Native.Nat.{ℕ, zero, suc, _+_, _*_, _-_, _/_, _%_, _^_, _<_}
 use lib.Dec.{ltb, eqb}
 use lib.ListN.{getD, set}
 use Rattle.rank.specs.Definitions.{subtract}
@@ -27,6 +27,21 @@ square c = square-from 6 c
 abbrev pub entry : List (List ℕ) → (i j : ℕ) → ℕ
 entry m i j = getD (getD m i []) j 0
 
+-- digits, and rows of them
+unfoldable pub Digits : List ℕ → Type 0
+Digits x = (k : ℕ) → getD x k 0 < 3
+
+unfoldable pub DigitRows : List (List ℕ) → Type 0
+DigitRows m = (i : ℕ) → Digits (getD m i [])
+
+-- the first of the n places from place i on where a column is not 0; the place after them if there is none
+unfoldable pub first-from : (left i : ℕ) → List ℕ → ℕ
+first-from zero i c = i
+first-from (suc n) i c = cond (eqb (getD c i 0) 0) (first-from n (suc i) c) i
+
+unfoldable pub first : (i : ℕ) → List ℕ → ℕ
+first i c = first-from (6 - i) i c
+
 -- THE PIVOT: the first of the n rows from row i on that is not 0 in column j; the row after them if there is none
 unfoldable pub pivot-from : (left i j : ℕ) → List (List ℕ) → ℕ
 pivot-from zero i j m = i
@@ -38,9 +53,9 @@ pivot-row r j m = pivot-from (6 - r) r j m
 unfoldable pub swap-rows : (r f : ℕ) → List (List ℕ) → List (List ℕ)
 swap-rows r f m = set (set m f (getD m r [])) r (getD m f [])
 
--- a row x less the multiple of the chosen row p that clears column j, if it is not 0 there
+-- a row x less the multiple of the chosen row p that clears column j
 unfoldable pub clear-row : (j : ℕ) → (p x : List ℕ) → List ℕ
-clear-row j p x = cond (eqb (getD x j 0) 0) x (subtract (getD x j 0 * getD p j 0 % 3) x p)
+clear-row j p x = subtract (getD x j 0 * getD p j 0) x p
 
 -- the n rows from row i on, cleared in column j by p
 unfoldable pub clear-from : (left i j : ℕ) → (p : List ℕ) → List (List ℕ) → List (List ℕ)

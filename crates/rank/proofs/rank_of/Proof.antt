@@ -3,9 +3,13 @@ use mathlib.Core.Path.{ap, _∙_}
 use lib.ListN.{length}
 use borrow.Author.Needs.{needs}
 use Rattle.rank.specs.Elimination.{trace}
+use Rattle.rank.specs.DigitSquare.{square-settled}
 use Rattle.rank.specs.PivotColumns.{chosen-rank}
 use Rattle.rank.proofs.rank_of.Statement.{statement}
 use Rattle.rank.proofs.rank_of.Tie as tie
+
+pivots-requires : tie.Need-pivots-requires
+pivots-requires c κs = rw (c .digit-square .ensures) (square-settled (c .before .args .symbols))
 
 returns : tie.Need-returns
 returns c =
@@ -13,4 +17,4 @@ returns c =
     c .pivots .ensures ∙ ap (λ m. length (trace m)) (c .before .digit-square .ensures) ∙ chosen-rank (s .args .symbols) (s .good .0 .1 .0 .1)
 
 pub rank-of-spec : {M : Type 1} → statement M
-rank-of-spec = tie.close (tie.spec (λ c κs. search needs) (λ c κs. search needs) returns)
+rank-of-spec = tie.close (tie.spec (λ c κs. search needs) pivots-requires returns)
