@@ -1,14 +1,15 @@
 -- Arrays of six: a list of six is its entries, as the code writes them out. And arrays of digits. Assumes nothing.
--- Main: six, subtract-six, product-of-digits, product-with-digit, subtract-settles, set-settles, swap-settles.
-use mathlib.Core.Path.{_≡_, sym, ap, ap₂, _∙_}
+-- Main: six, subtract-six, zeros-rank, product-of-digits, product-with-digit, subtract-settles, set-settles, swap-settles.
+use mathlib.Core.Path.{_≡_, refl, sym, ap, ap₂, _∙_}
 use mathlib.Core.List.{List, [], _∷_}
 use Prim.Native.Nat.{ℕ, zero, suc, _+_, _*_, _%_, _≤_, _<_}
 use native.Mathlib.Nat.{mul-le-mul, mod-lt}
 use native.Mathlib.Omega.{arith}
 use lib.Dec.{lit<}
 use lib.ListN.{length, getD, set}
-use Rattle.algebra.specs.Lists.{table, table-at}
-use Rattle.rank.specs.Definitions.{subtract}
+use Rattle.algebra.specs.Field.{digits, digits-of}
+use Rattle.algebra.specs.Lists.{cons, table, table-at}
+use Rattle.rank.specs.Definitions.{columns, subtract, pivot, rank-with, rank-from, rank}
 use Rattle.rank.specs.Elimination.{Digits, DigitRows, swap-rows}
 
 abbrev pub entries : List ℕ → List ℕ
@@ -20,6 +21,14 @@ six l h = ap (λ (n : ℕ). table n (λ i. getD l i 0)) (sym h) ∙ table-at l
 
 pub subtract-six : (d : ℕ) (a b : List ℕ) → length a ≡ 6 → length b ≡ 6 → subtract d (entries a) (entries b) ≡ subtract d a b
 subtract-six d a b h k = ap₂ (subtract d) (six a h) (six b k)
+
+-- six numbers with the sum 0 are zeros, and zeros have rank 0
+pub zeros-rank : (c : List ℕ) → length c ≡ 6 → getD c 0 0 + getD c 1 0 + getD c 2 0 + getD c 3 0 + getD c 4 0 + getD c 5 0 ≡ 0 → rank c ≡ 0
+unfolding rank rank-from rank-with pivot columns digits digits-of
+zeros-rank c h e =
+    let z : entries c ≡ 0 ∷ 0 ∷ 0 ∷ 0 ∷ 0 ∷ 0 ∷ [] =
+    cons (omega arith) (cons (omega arith) (cons (omega arith) (cons (omega arith) (cons (omega arith) (cons (omega arith) refl))))) in
+    ap rank (sym (six c h) ∙ z)
 
 -- DIGITS: the product of two, and of 4 at most and one
 pub product-of-digits : (x y : ℕ) → x < 3 → y < 3 → x * y ≤ 4
