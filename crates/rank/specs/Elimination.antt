@@ -3,6 +3,7 @@
 -- the next place, and from each row below that has a digit not 0 there the multiple of it that clears that digit is subtracted. A column
 -- without such a row is passed over. The trace says what was chosen and how many subtractions that took. Assumes nothing: these are
 -- definitions.
+use mathlib.Core.Path.{_≡_}
 use mathlib.Core.Bool.{Bool, true, false, cond}
 use mathlib.Core.List.{List, [], _∷_, map}
 use Prim.Native.Nat.{ℕ, zero, suc, _+_, _*_, _-_, _/_, _%_, _^_, _<_}
@@ -50,8 +51,16 @@ pivot-from (suc n) i j m = cond (eqb (entry m i j) 0) (pivot-from n (suc i) j m)
 unfoldable pub pivot-row : (r j : ℕ) → List (List ℕ) → ℕ
 pivot-row r j m = pivot-from (6 - r) r j m
 
+unfoldable pub zeros : List ℕ
+zeros = 0 ∷ 0 ∷ 0 ∷ 0 ∷ 0 ∷ 0 ∷ []
+
+-- the chosen row f is exchanged with the one in place r and taken out there, where no later column looks: zeros stand in its place
 unfoldable pub swap-rows : (r f : ℕ) → List (List ℕ) → List (List ℕ)
-swap-rows r f m = set (set m f (getD m r [])) r (getD m f [])
+swap-rows r f m = set (set m f (getD m r [])) r zeros
+
+-- the rows before place r are taken out
+unfoldable pub Taken : (r : ℕ) → List (List ℕ) → Type 0
+Taken r m = (i : ℕ) → i < r → (k : ℕ) → entry m i k ≡ 0
 
 -- a row x less the multiple of the chosen row p that clears column j
 unfoldable pub clear-row : (j : ℕ) → (p x : List ℕ) → List ℕ
@@ -65,7 +74,7 @@ clear-from (suc n) i j p m = clear-from n (suc i) j p (set m i (clear-row j p (g
 unfoldable pub clear-on : (i j : ℕ) → (p : List ℕ) → List (List ℕ) → List (List ℕ)
 clear-on i j p m = clear-from (6 - i) i j p m
 
--- row f goes to place r, and clears the rows below
+-- row f is taken out at place r, and clears the rows below
 unfoldable pub step : (r f j : ℕ) → List (List ℕ) → List (List ℕ)
 step r f j m = clear-on (suc r) j (getD m f []) (swap-rows r f m)
 

@@ -19,7 +19,7 @@ use Rattle.algebra.specs.Digits.{digit, digits-rest, digit-rest, by-digits, add
 use Rattle.algebra.specs.Combinations.{Span, span-like, span-head}
 use Rattle.rank.specs.Definitions.{subtract}
 use Rattle.rank.specs.Clearing.{clear, subtract-digits, span-unclear}
-use Rattle.rank.specs.Elimination.{swap-rows, clear-row, clear-from, clear-on, step}
+use Rattle.rank.specs.Elimination.{zeros, swap-rows, clear-row, clear-from, clear-on, step}
 
 -- A ROW as a symbol with a property
 pub record Row (P : ℕ → Type 0) (x : List ℕ) : Type 0 where
@@ -53,11 +53,11 @@ module _ (r f : ℕ) (m : List (List ℕ)) (six : length m ≡ 6) (b : f < 6) wh
   swap-f : r ≢ f → getD (swap-rows r f m) f [] ≡ getD m r []
   unfolding swap-rows
   swap-f n =
-      getD-set-other (set m f (getD m r [])) r f (getD m f []) [] (λ e. n (sym e)) ∙ getD-set-same m f (getD m r []) [] (rw six b)
+      getD-set-other (set m f (getD m r [])) r f zeros [] (λ e. n (sym e)) ∙ getD-set-same m f (getD m r []) [] (rw six b)
 
   swap-other : (k : ℕ) → k ≢ r → k ≢ f → getD (swap-rows r f m) k [] ≡ getD m k []
   unfolding swap-rows
-  swap-other k n o = getD-set-other (set m f (getD m r [])) r k (getD m f []) [] n ∙ getD-set-other m f k (getD m r []) [] o
+  swap-other k n o = getD-set-other (set m f (getD m r [])) r k zeros [] n ∙ getD-set-other m f k (getD m r []) [] o
 
 -- THE CLEARING
 module _ (j : ℕ) (p : List ℕ) where

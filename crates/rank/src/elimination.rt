@@ -5,11 +5,11 @@ ghost use mathlib.Core.Path.{_≡_};
 ghost use lib.ListN.{length};
 ghost use Rattle.rank.specs.Elimination.{first, DigitRows, trace};
 
-// The first place, from place r on, where a column is not 0; if there is none, the place after the last.
-fn pivot_place(column: [u16; 6], r: usize) -> usize
-    ensures { λ f. ⌜ f ≡ first r column ⌝ }
+// The first place where a column is not 0; if there is none, the place after the last.
+fn pivot_place(column: [u16; 6]) -> usize
+    ensures { λ f. ⌜ f ≡ first 0 column ⌝ }
 {
-    let mut i = r;
+    let mut i = 0;
     while i < 6 {
         if column[i] != 0 {
             return i;
@@ -32,13 +32,13 @@ pub(crate) fn pivots(m: [[u16; 6]; 6]) -> u8
         // Counted on here, so that the turn ends with the `if`.
         let k = j;
         j += 1;
-        let f = pivot_place([n[0][k], n[1][k], n[2][k], n[3][k], n[4][k], n[5][k]], r);
+        let f = pivot_place([n[0][k], n[1][k], n[2][k], n[3][k], n[4][k], n[5][k]]);
         if f < 6 {
             let a = n[f][k];
             let x = n[r];
             let p = n[f];
             n[f] = x;
-            n[r] = p;
+            n[r] = [0, 0, 0, 0, 0, 0];
             let mut i = r + 1;
             while i < 6 {
                 let y = n[i];

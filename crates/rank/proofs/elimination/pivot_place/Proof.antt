@@ -9,10 +9,10 @@ use Rattle.rank.proofs.elimination.pivot_place.Statement.{statement}
 use Rattle.rank.proofs.elimination.pivot_place.Tie as tie
 
 abbrev Inv-loop : tie.InvT-loop
-Inv-loop r column i₀ i = first r column ≡ first i column
+Inv-loop column i₀ i = first 0 column ≡ first i column
 
 abbrev μ-loop : tie.MeasureT-loop
-μ-loop r column i₀ i = 6 - i
+μ-loop column i₀ i = 6 - i
 
 loop-holds : tie.Need-loop-holds Inv-loop μ-loop
 loop-holds c = refl

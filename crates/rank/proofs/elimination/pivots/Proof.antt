@@ -8,35 +8,40 @@ use lib.ListN.{length, getD, set}
 use borrow.Author.Needs.{needs}
 use Rattle.algebra.specs.Lists.{table}
 use Rattle.rank.specs.Definitions.{subtract}
-use Rattle.rank.specs.Arrays.{subtract-settles, set-settles, swap-settles}
-use Rattle.rank.specs.Elimination.{Digits, DigitRows, swap-rows, clear-row, clear-on, step, trace-on, trace}
-use Rattle.rank.specs.Loops.{column-first, step-clears, clear-next, clear-end, trace-passed, trace-chosen, trace-end}
+use Rattle.rank.specs.Arrays.{subtract-settles, set-settles, swap-settles, taken-set, taken-swap}
+use Rattle.rank.specs.Elimination.{Digits, DigitRows, zeros, swap-rows, Taken, clear-row, clear-on, step, trace-on, trace}
+use Rattle.rank.specs.Loops.{column-first, pivot-after, step-clears, clear-next, clear-end, trace-passed, trace-chosen, trace-end}
 use Rattle.rank.proofs.elimination.pivots.Statement.{statement}
 use Rattle.rank.proofs.elimination.pivots.Tie as tie
 
 abbrev Inv-loop2 : tie.InvT-loop2
-Inv-loop2 n₀ r j k f a p i₀ n i = (clear-on (r + 1) k p n₀ ≡ clear-on i k p n) × DigitRows n × Digits p × (a ≡ getD p k 0)
+Inv-loop2 n₀ r j k f a p i₀ n i = (clear-on (r + 1) k p n₀ ≡ clear-on i k p n) × DigitRows n × Digits p × (a ≡ getD p k 0) × Taken (r + 1) n × (r + 1 ≤ i)
 
 abbrev μ-loop2 : tie.MeasureT-loop2
 μ-loop2 n₀ r j k f a p i₀ n i = 6 - i
 
 abbrev Inv-loop : tie.InvT-loop
-Inv-loop n₀ r₀ j₀ n r j = (j ≤ 6) × (r ≤ j) × (r + length (trace-on j r n) ≡ length (trace n₀)) × DigitRows n
+Inv-loop n₀ r₀ j₀ n r j = (j ≤ 6) × (r ≤ j) × (r + length (trace-on j r n) ≡ length (trace n₀)) × DigitRows n × Taken r n
 
 abbrev μ-loop : tie.MeasureT-loop
 μ-loop n₀ r₀ j₀ n r j = 6 - j
 
 loop-holds : tie.Need-loop-holds Inv-loop2 μ-loop2 Inv-loop μ-loop
-unfolding trace
-loop-holds c = search needs
+unfolding trace Taken
+loop-holds c = (omega arith, omega arith, omega arith, c .pre, λ i l. absurd (omega arith))
 
 loop2-holds : tie.Need-loop2-holds Inv-loop2 μ-loop2 Inv-loop μ-loop
-unfolding DigitRows swap-rows
+unfolding DigitRows swap-rows zeros table
 loop2-holds c =
     let o = c .before .before .before .before .before .before .before .before .before .before .before .before in
     let d = o .loop .inv .3 in
-    let f = c .before .before .before .before .pivot-place .result in
-    (refl, swap-settles (o .loop .r) f (o .loop .n) d, d f, refl)
+    let g = c .before .before .before .before in
+    let f = g .pivot-place .result in
+    let n = o .loop .n in
+    let r = o .loop .r in
+    let t = o .loop .inv .4 in
+    let e = g .pivot-place .ensures ∙ column-first r (o .loop .j) n (omega (arith, o .loop .inv)) t in
+    (refl, swap-settles r f n d, d f, refl, taken-swap r f n (omega (arith, e, pivot-after r (o .loop .j) n)) t, omega arith)
 
 multiple-requires : tie.Need-multiple-requires Inv-loop2 μ-loop2 Inv-loop μ-loop
 unfolding DigitRows Digits
@@ -71,10 +76,12 @@ loop2-again c =
       set-settles n i _ (v .1) (rw e (subtract-settles _ y p)),
       v .2,
       v .3,
+      taken-set (o .loop .r + 1) i n _ (v .5) (v .4),
+      omega (arith, v .5),
     )
 
 loop-again : tie.Need-loop-again Inv-loop2 μ-loop2 Inv-loop μ-loop
-unfolding swap-rows table
+unfolding swap-rows zeros table
 loop-again c =
     let s = c .before in
     let v = s .loop2 .inv in
@@ -84,12 +91,12 @@ loop-again c =
     let r = o .loop .r in
     let j = o .loop .j in
     let f = g .pivot-place .result in
-    let e = g .pivot-place .ensures ∙ column-first r j n (omega (arith, o .loop .inv)) in
+    let e = g .pivot-place .ensures ∙ column-first r j n (omega (arith, o .loop .inv)) (o .loop .inv .4) in
     let q =
     sym (step-clears r f j n ∙ v .0 ∙ clear-end (s .loop2 .i) j (getD n f []) (s .loop2 .n) (c .loop2-test .left)) ∙ ap (λ f. step r f j n) e in
     let t = trace-chosen j r n (g .before .before .before .before .before .before .before .loop-test .taken)
     (omega (arith, e, s .before .before .before .before .if1 .taken)) in
-    (search needs, search needs, omega (arith, o .loop .inv, ap length t, ap (λ y. length (trace-on (j + 1) (r + 1) y)) q), v .1)
+    (search needs, search needs, omega (arith, o .loop .inv, ap length t, ap (λ y. length (trace-on (j + 1) (r + 1) y)) q), v .1, v .4)
 
 loop-again-2 : tie.Need-loop-again-2 Inv-loop2 μ-loop2 Inv-loop μ-loop
 unfolding table
@@ -99,9 +106,9 @@ loop-again-2 c =
     let n = o .loop .n in
     let r = o .loop .r in
     let j = o .loop .j in
-    let e = g .pivot-place .ensures ∙ column-first r j n (omega (arith, o .loop .inv)) in
+    let e = g .pivot-place .ensures ∙ column-first r j n (omega (arith, o .loop .inv)) (o .loop .inv .4) in
     let t = trace-passed j r n (g .before .before .before .before .before .before .before .loop-test .taken) (omega (arith, e, c .if1 .left)) in
-    (search needs, search needs, omega (arith, o .loop .inv, ap length t), o .loop .inv .3)
+    (search needs, search needs, omega (arith, o .loop .inv, ap length t), o .loop .inv .3, o .loop .inv .4)
 
 returns : tie.Need-returns Inv-loop2 μ-loop2 Inv-loop μ-loop
 returns c =
