@@ -3,9 +3,10 @@
 -- the next place, and from each row below that has a digit not 0 there the multiple of it that clears that digit is subtracted. A column
 -- without such a row is passed over. The trace says what was chosen and how many subtractions that took. Assumes nothing: these are
 -- definitions.
+use mathlib.Core.Path.{_≡_}
 use mathlib.Core.Bool.{Bool, true, false, cond}
 use mathlib.Core.List.{List, [], _∷_, map}
-use Prim.Native.Nat.{ℕ, zero, suc, _+_, _*_, _-_, _/_, _%_, _^_}
+use Prim.Native.Nat.{ℕ, zero, suc, _+_, _*_, _-_, _/_, _%_, _^_, _<_}
 use lib.Dec.{ltb, eqb}
 use lib.ListN.{getD, set}
 use Rattle.rank.specs.Definitions.{subtract}
@@ -27,6 +28,21 @@ square c = square-from 6 c
 abbrev pub entry : List (List ℕ) → (i j : ℕ) → ℕ
 entry m i j = getD (getD m i []) j 0
 
+-- digits, and rows of them
+unfoldable pub Digits : List ℕ → Type 0
+Digits x = (k : ℕ) → getD x k 0 < 3
+
+unfoldable pub DigitRows : List (List ℕ) → Type 0
+DigitRows m = (i : ℕ) → Digits (getD m i [])
+
+-- the first of the n places from place i on where a column is not 0; the place after them if there is none
+unfoldable pub first-from : (left i : ℕ) → List ℕ → ℕ
+first-from zero i c = i
+first-from (suc n) i c = cond (eqb (getD c i 0) 0) (first-from n (suc i) c) i
+
+unfoldable pub first : (i : ℕ) → List ℕ → ℕ
+first i c = first-from (6 - i) i c
+
 -- THE PIVOT: the first of the n rows from row i on that is not 0 in column j; the row after them if there is none
 unfoldable pub pivot-from : (left i j : ℕ) → List (List ℕ) → ℕ
 pivot-from zero i j m = i
@@ -35,12 +51,20 @@ pivot-from (suc n) i j m = cond (eqb (entry m i j) 0) (pivot-from n (suc i) j m)
 unfoldable pub pivot-row : (r j : ℕ) → List (List ℕ) → ℕ
 pivot-row r j m = pivot-from (6 - r) r j m
 
-unfoldable pub swap-rows : (r f : ℕ) → List (List ℕ) → List (List ℕ)
-swap-rows r f m = set (set m f (getD m r [])) r (getD m f [])
+unfoldable pub zeros : List ℕ
+zeros = 0 ∷ 0 ∷ 0 ∷ 0 ∷ 0 ∷ 0 ∷ []
 
--- a row x less the multiple of the chosen row p that clears column j, if it is not 0 there
+-- the chosen row f is exchanged with the one in place r and taken out there, where no later column looks: zeros stand in its place
+unfoldable pub swap-rows : (r f : ℕ) → List (List ℕ) → List (List ℕ)
+swap-rows r f m = set (set m f (getD m r [])) r zeros
+
+-- the rows before place r are taken out
+unfoldable pub Taken : (r : ℕ) → List (List ℕ) → Type 0
+Taken r m = (i : ℕ) → i < r → (k : ℕ) → entry m i k ≡ 0
+
+-- a row x less the multiple of the chosen row p that clears column j
 unfoldable pub clear-row : (j : ℕ) → (p x : List ℕ) → List ℕ
-clear-row j p x = cond (eqb (getD x j 0) 0) x (subtract (getD x j 0 * getD p j 0 % 3) x p)
+clear-row j p x = subtract (getD x j 0 * getD p j 0) x p
 
 -- the n rows from row i on, cleared in column j by p
 unfoldable pub clear-from : (left i j : ℕ) → (p : List ℕ) → List (List ℕ) → List (List ℕ)
@@ -50,7 +74,7 @@ clear-from (suc n) i j p m = clear-from n (suc i) j p (set m i (clear-row j p (g
 unfoldable pub clear-on : (i j : ℕ) → (p : List ℕ) → List (List ℕ) → List (List ℕ)
 clear-on i j p m = clear-from (6 - i) i j p m
 
--- row f goes to place r, and clears the rows below
+-- row f is taken out at place r, and clears the rows below
 unfoldable pub step : (r f j : ℕ) → List (List ℕ) → List (List ℕ)
 step r f j m = clear-on (suc r) j (getD m f []) (swap-rows r f m)
 

@@ -1,17 +1,19 @@
 -- One turn of each loop of the code, in the code's terms. Assumes nothing.
--- Main: pivot-none, pivot-some, clear-next, trace-passed, trace-chosen, above-next, above-here, and the ends of the loops.
-use mathlib.Core.Path.{_≡_, refl}
+-- Main: first-none, first-some, column-first, pivot-after, clear-next, trace-passed, trace-chosen, above-next, above-here, and the ends of the loops.
+use mathlib.Core.Path.{_≡_, refl, ap, ap₂, _∙_}
 use mathlib.Core.Logic.{_≢_}
-use mathlib.Core.Bool.{true, false}
+use mathlib.Core.Bool.{Bool, true, false, cond}
 use mathlib.Core.List.{List, [], _∷_}
-use Prim.Native.Nat.{ℕ, suc, _+_, _-_, _≤_, _<_}
+use Prim.Native.Nat.{ℕ, zero, suc, _+_, _-_, _≤_, _<_}
 use native.Mathlib.Numerals.{add-one}
 use native.Mathlib.Omega.{arith}
+use lib.Dec.{eqb}
 use lib.ListN.{length, getD, set, drop, drop-of-length-le}
 use lib.Seq.{drop-cons}
 use borrow.Author.Tests.{eq-eqb, ne-eqb, lt-ltb, le-ltb}
+use Rattle.algebra.specs.Lists.{table, at-table}
 use Rattle.algebra.specs.Tests.{any-above}
-use Rattle.rank.specs.Elimination.{entry, pivot-from, pivot-row, swap-rows, clear-row, clear-from, clear-on, step}
+use Rattle.rank.specs.Elimination.{entry, first-from, first, pivot-from, pivot-row, swap-rows, Taken, clear-row, clear-from, clear-on, step}
 use Rattle.rank.specs.Elimination.{choice, trace-with, trace-from, trace-on}
 
 -- a loop from i to 5: one more turn, or none
@@ -21,19 +23,49 @@ more i h = omega arith
 done : (i : ℕ) → 6 ≤ i → 6 - i ≡ 0
 done i h = omega arith
 
--- THE PIVOT
-module _ (i j : ℕ) (m : List (List ℕ)) where
-  pub pivot-none : i < 6 → entry m i j ≡ 0 → pivot-row i j m ≡ pivot-row (i + 1) j m
-  unfolding pivot-row pivot-from
-  pivot-none h e = rw (more i h, add-one, eq-eqb (entry m i j) 0 e) refl
+-- THE PIVOT: a column from place i on
+module _ (i : ℕ) (c : List ℕ) where
+  pub first-none : i < 6 → getD c i 0 ≡ 0 → first i c ≡ first (i + 1) c
+  unfolding first first-from
+  first-none h e = rw (more i h, add-one, eq-eqb (getD c i 0) 0 e) refl
 
-  pub pivot-some : i < 6 → entry m i j ≢ 0 → pivot-row i j m ≡ i
-  unfolding pivot-row pivot-from
-  pivot-some h n = rw (more i h, ne-eqb (entry m i j) 0 n) refl
+  pub first-some : i < 6 → getD c i 0 ≢ 0 → first i c ≡ i
+  unfolding first first-from
+  first-some h n = rw (more i h, ne-eqb (getD c i 0) 0 n) refl
 
-  pub pivot-end : 6 ≤ i → pivot-row i j m ≡ i
-  unfolding pivot-row pivot-from
-  pivot-end h = rw (done i h) refl
+  pub first-end : 6 ≤ i → first i c ≡ i
+  unfolding first first-from
+  first-end h = rw (done i h) refl
+
+first-skip : (r : ℕ) (c : List ℕ) → r ≤ 6 → ((i : ℕ) → i < r → getD c i 0 ≡ 0) → first 0 c ≡ first r c
+first-skip zero c h z = refl
+first-skip (suc r) c h z =
+    first-skip r c (omega arith) (λ i l. z i (omega arith)) ∙ first-none r c (omega arith) (z r (omega arith)) ∙ ap (λ i. first i c) (add-one r)
+
+-- a column of a square has the square's pivot, if the rows chosen before are taken out
+pub column-first : (r j : ℕ) (m : List (List ℕ)) → r ≤ 6 → Taken r m → first 0 (table 6 (λ i. entry m i j)) ≡ pivot-row r j m
+unfolding first first-from pivot-row pivot-from Taken
+column-first r j m h t = first-skip r c h (λ i l. at-table 6 (λ i. entry m i j) i (omega arith) ∙ t i l j) ∙ go (6 - r) r (omega arith)
+  where
+    c : List ℕ
+    c = table 6 (λ i. entry m i j)
+
+    go : (n i : ℕ) → i + n ≡ 6 → first-from n i c ≡ pivot-from n i j m
+    go zero i e = refl
+    go (suc n) i e = ap₂ (λ (d f : ℕ). cond (eqb d 0) f i) (at-table 6 (λ i. entry m i j) i (omega arith)) (go n (suc i) (omega arith))
+
+-- and it is none of those
+pub pivot-after : (r j : ℕ) (m : List (List ℕ)) → r ≤ pivot-row r j m
+unfolding pivot-row pivot-from
+pivot-after r j m = go (6 - r) r
+  where
+    go : (n i : ℕ) → i ≤ pivot-from n i j m
+    go zero i = omega arith
+    go (suc n) i = by (eqb (entry m i j) 0) (pivot-from n (suc i) j m) (go n (suc i))
+      where
+        by : (b : Bool) (f : ℕ) → suc i ≤ f → i ≤ cond b f i
+        by true f h = omega arith
+        by false f h = omega arith
 
 -- THE ROWS BELOW
 pub step-clears : (r f j : ℕ) (m : List (List ℕ)) → step r f j m ≡ clear-on (r + 1) j (getD m f []) (swap-rows r f m)

@@ -7,18 +7,19 @@ use mathlib.Core.Bool.{Bool, true, false, cond}
 use mathlib.Core.List.{List, [], _∷_}
 use Prim.Native.Nat.{ℕ, zero, suc, _+_, _*_, _-_, _%_, _≤_, _<_}
 use native.Mathlib.Decide.{ℕ-discrete}
-use native.Mathlib.Nat.{mod-lt}
+use native.Mathlib.Nat.{mod-lt, mod-mod}
 use native.Mathlib.Omega.{arith}
 use lib.Dec.{eqb, lit<}
 use lib.ListN.{length, getD, set, length-set}
 use lib.Seq.{getD-set-same, getD-set-other}
 use borrow.Author.Tests.{eqb-true}
 use Rattle.algebra.specs.Field.{digits, add, scale}
+use Rattle.algebra.specs.Mod3.{times-≈}
 use Rattle.algebra.specs.Digits.{digit, digits-rest, digit-rest, by-digits, add-zero, scale-same, scale-zero}
 use Rattle.algebra.specs.Combinations.{Span, span-like, span-head}
 use Rattle.rank.specs.Definitions.{subtract}
 use Rattle.rank.specs.Clearing.{clear, subtract-digits, span-unclear}
-use Rattle.rank.specs.Elimination.{swap-rows, clear-row, clear-from, clear-on, step}
+use Rattle.rank.specs.Elimination.{zeros, swap-rows, clear-row, clear-from, clear-on, step}
 
 -- A ROW as a symbol with a property
 pub record Row (P : ℕ → Type 0) (x : List ℕ) : Type 0 where
@@ -39,17 +40,9 @@ span-digits ps v w e = span-like
 -- on rows that are the digits of symbols, clearing is that of the symbols
 clear-digits : (j p v : ℕ) → clear-row j (digits p) (digits v) ≡ digits (clear j p v)
 unfolding clear-row clear
-clear-digits j p v = go (eqb (digit v j) 0) refl
-  where
-    d : ℕ
-    d = digit v j * digit p j % 3
-
-    go : (b : Bool) → eqb (digit v j) 0 ≡ b → cond b (digits v) (subtract d (digits v) (digits p)) ≡ digits (add v (scale (2 * d) p))
-    go true e =
-        let z = ap (λ (x : ℕ). x * digit p j) (eqb-true (digit v j) 0 e) in
-        let s = scale-same (2 * d) 0 p (omega (arith, z)) ∙ scale-zero p in
-        sym (ap digits (ap (add v) s ∙ add-zero v) ∙ digits-rest v)
-    go false e = subtract-digits d v p
+clear-digits j p v =
+    let d = digit v j * digit p j in
+    subtract-digits d v p ∙ ap (λ (w : ℕ). digits (add v w)) (scale-same (2 * d) (2 * (d % 3)) p (times-≈ 2 d (d % 3) (sym (mod-mod d 3))))
 
 -- THE EXCHANGE
 module _ (r f : ℕ) (m : List (List ℕ)) (six : length m ≡ 6) (b : f < 6) where
@@ -60,11 +53,11 @@ module _ (r f : ℕ) (m : List (List ℕ)) (six : length m ≡ 6) (b : f < 6) wh
   swap-f : r ≢ f → getD (swap-rows r f m) f [] ≡ getD m r []
   unfolding swap-rows
   swap-f n =
-      getD-set-other (set m f (getD m r [])) r f (getD m f []) [] (λ e. n (sym e)) ∙ getD-set-same m f (getD m r []) [] (rw six b)
+      getD-set-other (set m f (getD m r [])) r f zeros [] (λ e. n (sym e)) ∙ getD-set-same m f (getD m r []) [] (rw six b)
 
   swap-other : (k : ℕ) → k ≢ r → k ≢ f → getD (swap-rows r f m) k [] ≡ getD m k []
   unfolding swap-rows
-  swap-other k n o = getD-set-other (set m f (getD m r [])) r k (getD m f []) [] n ∙ getD-set-other m f k (getD m r []) [] o
+  swap-other k n o = getD-set-other (set m f (getD m r [])) r k zeros [] n ∙ getD-set-other m f k (getD m r []) [] o
 
 -- THE CLEARING
 module _ (j : ℕ) (p : List ℕ) where

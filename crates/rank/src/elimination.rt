@@ -2,18 +2,16 @@
 use crate::row::multiple;
 use crate::row::row_less;
 ghost use mathlib.Core.Path.{_≡_};
-ghost use Prim.Native.Nat.{_<_};
 ghost use lib.ListN.{length};
-ghost use Rattle.rank.specs.Elimination.{pivot-row, clear-row, step, trace};
+ghost use Rattle.rank.specs.Elimination.{first, DigitRows, trace};
 
-// The first row, from row r on, that is not 0 in column j; if there is none, the row after the last.
-fn pivot_row(m: [[u8; 6]; 6], r: usize, j: usize) -> usize
-    requires { ⌜ j < 6 ⌝ }
-    ensures { λ f. ⌜ f ≡ pivot-row r j m ⌝ }
+// The first place where a column is not 0; if there is none, the place after the last.
+fn pivot_place(column: [u16; 6]) -> usize
+    ensures { λ f. ⌜ f ≡ first 0 column ⌝ }
 {
-    let mut i = r;
+    let mut i = 0;
     while i < 6 {
-        if m[i][j] != 0 {
+        if column[i] != 0 {
             return i;
         }
         i += 1;
@@ -21,38 +19,10 @@ fn pivot_row(m: [[u8; 6]; 6], r: usize, j: usize) -> usize
     i
 }
 
-// The row x less the multiple of the row p that clears column j.
-fn cleared_row(x: [u8; 6], p: [u8; 6], j: usize) -> [u8; 6]
-    requires { ⌜ j < 6 ⌝ }
-    ensures { λ r. ⌜ r ≡ clear-row j p x ⌝ }
-{
-    if x[j] == 0 {
-        return x;
-    }
-    row_less(x, multiple(x[j], p[j]), p)
-}
-
-// Row f is exchanged into place r, and clears the rows below in column j.
-fn reduced(m: [[u8; 6]; 6], r: usize, f: usize, j: usize) -> [[u8; 6]; 6]
-    requires { ⌜ (r < 6) × (f < 6) × (j < 6) ⌝ }
-    ensures { λ n. ⌜ n ≡ step r f j m ⌝ }
-{
-    let mut n = m;
-    let x = n[r];
-    let p = n[f];
-    n[f] = x;
-    n[r] = p;
-    let mut i = r + 1;
-    while i < 6 {
-        let y = n[i];
-        n[i] = cleared_row(y, p, j);
-        i += 1;
-    }
-    n
-}
-
-// How many rows elimination chooses, a column after the other: r rows are chosen before column j.
-pub(crate) fn pivots(m: [[u8; 6]; 6]) -> u8
+// How many rows elimination chooses, a column after the other: r rows are chosen before column j. In place: a square
+// that a function returned would be copied for each column.
+pub(crate) fn pivots(m: [[u16; 6]; 6]) -> u8
+    requires { ⌜ DigitRows m ⌝ }
     ensures { λ r. ⌜ r ≡ length (trace m) ⌝ }
 {
     let mut n = m;
@@ -62,11 +32,19 @@ pub(crate) fn pivots(m: [[u8; 6]; 6]) -> u8
         // Counted on here, so that the turn ends with the `if`.
         let k = j;
         j += 1;
-        let f = pivot_row(n, r, k);
+        let f = pivot_place([n[0][k], n[1][k], n[2][k], n[3][k], n[4][k], n[5][k]]);
         if f < 6 {
-            // A local of its own: a call's array laid straight into n is not covered by the prover.
-            let q = reduced(n, r, f, k);
-            n = q;
+            let a = n[f][k];
+            let x = n[r];
+            let p = n[f];
+            n[f] = x;
+            n[r] = [0, 0, 0, 0, 0, 0];
+            let mut i = r + 1;
+            while i < 6 {
+                let y = n[i];
+                n[i] = row_less(y, multiple(n[i][k], a), p);
+                i += 1;
+            }
             r += 1;
         }
     }

@@ -8,6 +8,7 @@ use refusal::Answer;
 use refusal::Refusal;
 use square::digit_square;
 ghost use mathlib.Core.Path.{_≡_};
+ghost use Prim.Native.Nat.{_+_};
 ghost use Rattle.algebra.specs.Tests.{any-above};
 ghost use Rattle.refusal.specs.Answers.{told, answer};
 ghost use Rattle.rank.specs.Definitions.{rank};
@@ -27,10 +28,29 @@ pub fn any_above(list: &[u16], most: u16) -> bool
     false
 }
 
+// The sum of six symbols.
+fn sum(a: u16, b: u16, c: u16, d: u16, e: u16, f: u16) -> u32
+    ensures { λ r. ⌜ r ≡ a + b + c + d + e + f ⌝ }
+{
+    (a as u32) + (b as u32) + (c as u32) + (d as u32) + (e as u32) + (f as u32)
+}
+
 // The rank of six symbols. A number above 728 stands for its rest by 729.
 pub fn rank_of(symbols: [u16; 6]) -> u8
     ensures { λ r. ⌜ r ≡ rank symbols ⌝ }
 {
+    // The difference of a card without damage: no square need be built.
+    let total = sum(
+        symbols[0],
+        symbols[1],
+        symbols[2],
+        symbols[3],
+        symbols[4],
+        symbols[5],
+    );
+    if total == 0 {
+        return 0;
+    }
     pivots(digit_square(symbols))
 }
 

@@ -3,16 +3,16 @@ ghost use mathlib.Core.Path.{_≡_};
 ghost use Rattle.rank.specs.Elimination.{low-digits, other-digits, square};
 
 // The lowest digit of each symbol.
-fn low_digits(symbols: [u16; 6]) -> [u8; 6]
+fn low_digits(symbols: [u16; 6]) -> [u16; 6]
     ensures { λ r. ⌜ r ≡ low-digits symbols ⌝ }
 {
     [
-        (symbols[0] % 3) as u8,
-        (symbols[1] % 3) as u8,
-        (symbols[2] % 3) as u8,
-        (symbols[3] % 3) as u8,
-        (symbols[4] % 3) as u8,
-        (symbols[5] % 3) as u8,
+        symbols[0] % 3,
+        symbols[1] % 3,
+        symbols[2] % 3,
+        symbols[3] % 3,
+        symbols[4] % 3,
+        symbols[5] % 3,
     ]
 }
 
@@ -31,7 +31,7 @@ fn other_digits(symbols: [u16; 6]) -> [u16; 6]
 }
 
 // Row i, column j is digit i of symbol j.
-pub(crate) fn digit_square(symbols: [u16; 6]) -> [[u8; 6]; 6]
+pub(crate) fn digit_square(symbols: [u16; 6]) -> [[u16; 6]; 6]
     ensures { λ r. ⌜ r ≡ square symbols ⌝ }
 {
     let from1 = other_digits(symbols);
