@@ -2,7 +2,7 @@
 -- Assumes nothing.
 -- Main: power-at, power-log, power-plus, power-round, times-logs.
 use mathlib.Core.Path.{_≡_, refl, sym, ap, ap₂, _∙_}
-use mathlib.Core.Bool.{Bool, true, cond}
+use mathlib.Core.Bool.{true, cond}
 use mathlib.Core.List.{List, [], _∷_}
 use Prim.Native.Nat.{ℕ, zero, suc, _+_, _%_, _<_}
 use native.Mathlib.Nat.{mod-eq-of-lt, mod-lt, mod-mod, zero-add, suc-add, add-suc, add-zero}

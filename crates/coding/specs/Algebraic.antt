@@ -1,27 +1,25 @@
 -- Decoding for k = 2 by algebra: a message near a card is computed from the card's spectrum r and, unless `key r` is 0, its own first number.
 -- Assumes nothing.
 -- Main: key, ninth, proposed, near-ninth, near-proposed.
-use mathlib.Core.Path.{_≡_, refl, sym, ap, ap₂, _∙_, fun-ext}
+use mathlib.Core.Path.{_≡_, refl, sym, ap, _∙_}
 use mathlib.Core.Bool.{true}
 use mathlib.Core.List.{List, [], _∷_}
-use Prim.Native.Nat.{ℕ, _%_, _≤_, _<_}
+use Prim.Native.Nat.{ℕ, _%_, _<_}
 use native.Mathlib.Nat.{mod-eq-of-lt}
 use native.Mathlib.Omega.{arith}
 use lib.Dec.{lit≤, lit<}
 use Rattle.algebra.specs.Field.{add, minus, times, cube, risen, small, gamma}
-use Rattle.algebra.specs.Lists.{all-at, cons, table, length-table, at-table}
+use Rattle.algebra.specs.Lists.{all-at, cons}
 use Rattle.algebra.specs.Tests.{passed}
 use Rattle.algebra.specs.Sums.{Zero, add-whole}
-use Rattle.algebra.specs.Linear.{computing, images, agree, at-minus, composed, none-linear}
+use Rattle.algebra.specs.Linear.{computing, agree, at-minus, composed, none-linear}
 use Rattle.algebra.specs.Products.{ring, right, cube-linear, times-zero, zero-times, rest-times}
 use Rattle.algebra.specs.Inverses.{inverse, divide}
-use Rattle.algebra.specs.SmallField.{small-linear, small-fixed, low, high, low-small, high-gamma, high-linear, pair}
-use Rattle.algebra.specs.Polynomials.{ev}
-use Rattle.rank.specs.Definitions.{at, is-card, difference, apart}
-use Rattle.rank.specs.Distance.{apart-sym}
-use Rattle.coding.specs.Code.{inner, word, is-message, radius, Near}
-use Rattle.coding.specs.Coefficients.{inners, higher, coefficients, word-images, read, read-higher, read-coefficients}
-use Rattle.coding.specs.Spectrum.{spectrum, images-spectrum}
+use Rattle.algebra.specs.SmallField.{small-linear, small-fixed, low, high, low-small, high-gamma, high-linear}
+use Rattle.rank.specs.Definitions.{at, is-card}
+use Rattle.coding.specs.Code.{inner, is-message, Near}
+use Rattle.coding.specs.Coefficients.{inners, higher, coefficients, read, read-higher, read-coefficients}
+use Rattle.coding.specs.Spectrum.{spectrum}
 use Rattle.coding.specs.Errors.{errors, errors-beyond}
 use Rattle.coding.specs.Annihilator.{Annihilated, near-annihilated}
 

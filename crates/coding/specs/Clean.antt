@@ -1,7 +1,7 @@
 -- Cards without damage: a test of the spectrum tells whether a card is a word, and then its message is read off. For k = 5, where no damage can
 -- be undone, that is all of decoding. Assumes nothing.
 -- Main: none-from, shaped, shaped-decode, shaped-is-word, unshaped-five.
-use mathlib.Core.Path.{_≡_, refl, sym, ap, _∙_}
+use mathlib.Core.Path.{_≡_, sym, ap, _∙_}
 use mathlib.Core.Bool.{Bool, true, false, true≢false, _&&_}
 use mathlib.Core.List.{List}
 use mathlib.Core.Option.{none, some}
@@ -15,9 +15,9 @@ use Rattle.algebra.specs.Field.{small}
 use Rattle.algebra.specs.Linear.{at-zero}
 use Rattle.algebra.specs.Tests.{both}
 use Rattle.algebra.specs.SmallField.{small-linear, low, high, low-linear, low-below, high-below, low-small}
-use Rattle.rank.specs.Definitions.{is-card, apart}
+use Rattle.rank.specs.Definitions.{is-card}
 use Rattle.rank.specs.Distance.{apart-self, apart-zero}
-use Rattle.coding.specs.Code.{word, radius, Near}
+use Rattle.coding.specs.Code.{word, radius}
 use Rattle.coding.specs.Coefficients.{word-card}
 use Rattle.coding.specs.Spectrum.{spectrum}
 use Rattle.coding.specs.WordSpectrum.{Shape, message-of, is-message-of, word-shaped, shaped-word}

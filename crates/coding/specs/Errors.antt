@@ -4,12 +4,11 @@
 use mathlib.Core.Path.{_≡_, sym, ap, ap₂, _∙_, fun-ext}
 use mathlib.Core.Bool.{true}
 use mathlib.Core.List.{List}
-use Prim.Native.Nat.{ℕ, suc, _%_, _≤_, _<_}
-use native.Mathlib.Nat.{mod-eq-of-lt}
+use Prim.Native.Nat.{ℕ, _%_, _≤_, _<_}
 use native.Mathlib.Omega.{arith}
-use lib.ListN.{length, List·getD-eq-default}
+use lib.ListN.{List·getD-eq-default}
 use Rattle.algebra.specs.Field.{minus}
-use Rattle.algebra.specs.Lists.{table, length-table, at-table, all-at}
+use Rattle.algebra.specs.Lists.{table, length-table, at-table}
 use Rattle.algebra.specs.Sums.{sums}
 use Rattle.algebra.specs.Linear.{images}
 use Rattle.algebra.specs.Products.{ring}

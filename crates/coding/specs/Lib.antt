@@ -11,26 +11,27 @@ pub mod Linearity
 -- Decoding as a definition
 pub mod Options
 pub mod Decode
--- Decoding as a search
+-- Words are far apart
 pub mod Interpolation
 pub mod Finish
-pub mod Search
-pub mod Decoding
+pub mod Points
+pub mod Apart
 -- The test values
 pub mod Mu
 pub mod Traces
 pub mod TestValues
 -- The promises kept
 pub mod Proved
--- Decoding by algebra: the error's coefficients
+-- Decoding by algebra: the error's coefficients and their equations
 pub mod Errors
 pub mod Annihilator
 pub mod Algebraic
 pub mod RankOne
+-- and so for each k
 pub mod Clean
-pub mod DecodeSingle
-pub mod DecodeTwo
 pub mod DecodeOne
+pub mod DecodeTwo
+pub mod DecodeSingle
 -- Cards of low rank
 pub mod LowRank
 -- Linear functions by packed digits

@@ -6,7 +6,7 @@ use mathlib.Core.List.{List, [], _∷_, map}
 use Prim.Native.Nat.{ℕ, zero, suc, _*_, _-_}
 use native.Mathlib.Omega.{arith}
 use lib.ListN.{length, getD, List·getD-map}
-use Rattle.algebra.specs.Field.{add, times, power, risen, small, gamma}
+use Rattle.algebra.specs.Field.{add, times, power, risen, small}
 use Rattle.algebra.specs.Lists.{cons}
 use Rattle.algebra.specs.Digits.{add-zero}
 use Rattle.algebra.specs.Linear.{at-zero}

@@ -18,7 +18,7 @@ use Rattle.rank.specs.Distance.{apart-sym, apart-triangle}
 use Rattle.coding.specs.Code.{inner, inner-sum, value, word-from, word, is-message, radius, Near}
 use Rattle.coding.specs.Coefficients.{word-long}
 use Rattle.coding.specs.Decode.{decode}
-use Rattle.coding.specs.Decoding.{same-message}
+use Rattle.coding.specs.Apart.{same-message}
 use Rattle.coding.specs.Proved.{decoded, decode-none}
 
 -- THE ZERO MESSAGE and the zero word

@@ -1,5 +1,5 @@
 -- What is promised, proved: far-apart, one-near, words-cards, mu-there, test-tells; that a word has one message, which is read off it; and
--- that decode, which the search computes, is the message near a card. Assumes nothing.
+-- that decode is the message near a card, and every complete way to find one is decode. Assumes nothing.
 use mathlib.Core.Path.{_≡_, sym, ap, _∙_}
 use mathlib.Core.Bool.{true}
 use mathlib.Core.Logic.{_↔_}
@@ -15,7 +15,7 @@ use Rattle.algebra.specs.Tests.{passed}
 use Rattle.rank.specs.Distance.{apart-sym, apart-triangle}
 use Rattle.coding.specs.Coefficients.{word-card}
 use Rattle.coding.specs.Decode.{Answers, decode, decode-answers, answer-near, answer-none, none-answer, near-answer, same-answer}
-use Rattle.coding.specs.Decoding.{same-message, search, search-answers}
+use Rattle.coding.specs.Apart.{same-message}
 use Rattle.coding.specs.WordSpectrum.{message-of, is-message-of, message-of-word, word-shaped, shaped-word}
 use Rattle.coding.specs.Mu.{mu, mu-is, mu-alone}
 use Rattle.coding.specs.TestValues.{silent, shaped}
@@ -42,7 +42,7 @@ one-near k c m n p q u a b =
     (omega (arith, a .within, b .within, apart-sym (word k n) c, apart-triangle (word k m) c (word k n) (x ∙ sym z) (z ∙ sym y))) in
     (e, ap (word k) e)
 
--- MENDING: decode tells the message near a card, or that there is none, and the search computes it
+-- MENDING: decode tells the message near a card, or that there is none, and whatever answers a card is decode
 module _ (k : ℕ) (p : 1 ≤ k) (q : k ≤ 5) (c : List ℕ) (card : is-card c ≡ true) where
   near-one : (m n : List ℕ) → Near k c m → Near k c n → m ≡ n
   unfolding One-near
@@ -53,9 +53,6 @@ module _ (k : ℕ) (p : 1 ≤ k) (q : k ≤ 5) (c : List ℕ) (card : is-card c 
 
   pub answered : (o : Option (List ℕ)) → Answers k c o → o ≡ decode k c
   answered o a = same-answer near-one o (decode k c) a (decode-answers k c)
-
-  pub searched : search k c ≡ decode k c
-  searched = answered (search k c) (search-answers k p q c card)
 
 pub decode-none : (k : ℕ) (c : List ℕ) → (decode k c ≡ none) ↔ ((m : List ℕ) → Near k c m → ⊥)
 decode-none k c = (answer-none (decode-answers k c), none-answer (decode-answers k c))

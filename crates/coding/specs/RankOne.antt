@@ -1,7 +1,7 @@
 -- Errors of rank 1 or none: each coefficient's cube is the same multiple of the next, so two coefficients in a row give all, and the message
 -- is computed from the card's spectrum. Assumes nothing.
 -- Main: next-error, chain, single, Ratio, ratio, chained, near-single, near-key.
-use mathlib.Core.Path.{_≡_, refl, sym, ap, ap₂, _∙_}
+use mathlib.Core.Path.{_≡_, sym, ap, ap₂, _∙_}
 use mathlib.Core.Bool.{true}
 use mathlib.Core.List.{List, [], _∷_}
 use Prim.Native.Nat.{ℕ, zero, suc, _+_, _%_, _≤_, _<_}

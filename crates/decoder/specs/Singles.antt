@@ -1,14 +1,13 @@
 -- Errors of rank 1 or none as the code goes: k = 3, and the proposals for k = 4. Assumes nothing.
 -- Main: without-single, without-is, single-is, single-message, three-near, four-none, four-near, four-found, four-over.
-use mathlib.Core.Path.{_≡_, refl, sym, ap, ap₂, _∙_}
+use mathlib.Core.Path.{_≡_, sym, ap, ap₂, _∙_}
 use mathlib.Core.Logic.{_≢_}
 use mathlib.Core.Bool.{true}
 use mathlib.Core.List.{List, [], _∷_}
 use mathlib.Core.Option.{none, some}
-use Prim.Native.Nat.{ℕ, suc, _*_, _≤_, _<_}
+use Prim.Native.Nat.{ℕ, suc, _≤_, _<_}
 use native.Mathlib.Decide.{ℕ-discrete}
 use native.Mathlib.Omega.{arith}
-use lib.ListN.{take}
 use borrow.Author.Tests.{eq-eqb, ne-eqb}
 use Rattle.algebra.specs.Field.{minus, times, cube, small, gamma}
 use Rattle.algebra.specs.Lists.{table, table-same, length-table}

@@ -3,21 +3,18 @@
 -- Main: Row, RowsFrom, rows-step, rows-unstep.
 use mathlib.Core.Path.{_≡_, refl, sym, ap, ap₂, _∙_}
 use mathlib.Core.Logic.{_≢_}
-use mathlib.Core.Bool.{Bool, true, false, cond}
 use mathlib.Core.List.{List, [], _∷_}
 use Prim.Native.Nat.{ℕ, zero, suc, _+_, _*_, _-_, _%_, _≤_, _<_}
 use native.Mathlib.Decide.{ℕ-discrete}
 use native.Mathlib.Nat.{mod-lt, mod-mod}
 use native.Mathlib.Omega.{arith}
-use lib.Dec.{eqb, lit<}
+use lib.Dec.{lit<}
 use lib.ListN.{length, getD, set, length-set}
 use lib.Seq.{getD-set-same, getD-set-other}
-use borrow.Author.Tests.{eqb-true}
-use Rattle.algebra.specs.Field.{digits, add, scale}
+use Rattle.algebra.specs.Field.{digits, add}
 use Rattle.algebra.specs.Mod3.{times-≈}
-use Rattle.algebra.specs.Digits.{digit, digits-rest, digit-rest, by-digits, add-zero, scale-same, scale-zero}
+use Rattle.algebra.specs.Digits.{digit, digit-rest, by-digits, scale-same}
 use Rattle.algebra.specs.Combinations.{Span, span-like, span-head}
-use Rattle.rank.specs.Definitions.{subtract}
 use Rattle.rank.specs.Clearing.{clear, subtract-digits, span-unclear}
 use Rattle.rank.specs.Elimination.{zeros, swap-rows, clear-row, clear-from, clear-on, step}
 

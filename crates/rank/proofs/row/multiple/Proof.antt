@@ -1,7 +1,6 @@
 -- `rank::row::multiple` meets its contract: the product of two digits is small. Assumes nothing.
 use mathlib.Core.Path.{refl}
 use native.Mathlib.Omega.{arith}
-use borrow.Author.Needs.{needs}
 use Rattle.rank.specs.Arrays.{product-of-digits}
 use Rattle.rank.proofs.row.multiple.Statement.{statement}
 use Rattle.rank.proofs.row.multiple.Tie as tie
