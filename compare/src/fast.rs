@@ -1,5 +1,5 @@
 //! A fast implementation in plain Rust, for the comparison of speed: products
-//! by logarithms, and decoding by the search that the proved library uses.
+//! by logarithms, and decoding by a search over information subspaces.
 
 use crate::library::Library;
 use crate::refusal::Refusal;
