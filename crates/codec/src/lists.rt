@@ -3,15 +3,15 @@ ghost use mathlib.Core.Path.{_≡_};
 ghost use Prim.Native.Nat.{_≤_};
 ghost use lib.ListN.{length, take};
 
-// The list's numbers, and zeros.
-pub(crate) fn loaded(list: &[u16]) -> [u16; 10]
-    requires { ⌜ length (now list) ≤ 10 ⌝ }
-    ensures { λ r. ⌜ take (length (now (list .entry))) r ≡ now (list .entry) ⌝ }
+// The numbers of a list, and zeros.
+pub(crate) fn loaded(from: &[u16]) -> [u16; 10]
+    requires { ⌜ length (now from) ≤ 10 ⌝ }
+    ensures { λ r. ⌜ take (length (now (from .entry))) r ≡ now (from .entry) ⌝ }
 {
     let mut m = [0u16; 10];
     let mut i = 0;
-    while i < list.len() {
-        m[i] = list[i];
+    while i < from.len() {
+        m[i] = from[i];
         i += 1;
     }
     m

@@ -20,7 +20,7 @@ returns-3 c =
     let s = c .before .before .before .before .before .before .before in
     let l = now (s .before .before .before .before .args .symbols) in
     let h : length l ≡ 6 = s .before .before .if1 .left in
-    rw (c .rank-of .ensures ∙ ap rank (six l h)) (weighed l (rank l) (s .before .any-above .result) h (s .before .any-above .ensures) (s .if2 .left))
+    rw (c .rank-of-six .ensures ∙ ap rank (six l h)) (weighed l (rank l) (s .before .any-above .result) h (s .before .any-above .ensures) (s .if2 .left))
 
 pub weight-spec : {M : Type 1} → statement M
 weight-spec =

@@ -10,10 +10,10 @@ use Rattle.codec.proofs.lists.loaded.Statement.{statement}
 use Rattle.codec.proofs.lists.loaded.Tie as tie
 
 abbrev Inv-loop : tie.InvT-loop
-Inv-loop list m₀ i₀ m i = (i ≤ length list) × (length m ≡ 10) × (take i m ≡ take i list)
+Inv-loop from m₀ i₀ m i = (i ≤ length from) × (length m ≡ 10) × (take i m ≡ take i from)
 
 abbrev μ-loop : tie.MeasureT-loop
-μ-loop list m₀ i₀ m i = length list - i
+μ-loop from m₀ i₀ m i = length from - i
 
 loop-holds : tie.Need-loop-holds Inv-loop μ-loop
 loop-holds c = (search needs, refl, refl)
@@ -26,13 +26,13 @@ loop-again c =
     let s = c .before .before in (
       omega arith,
       simp length-set (s .loop .inv .1),
-      filled-next (s .loop .m) (now (s .before .args .list)) (s .loop .i) (omega arith) (omega arith) (s .loop .inv .2),
+      filled-next (s .loop .m) (now (s .before .args .from)) (s .loop .i) (omega arith) (omega arith) (s .loop .inv .2),
     )
 
 returns : tie.Need-returns Inv-loop μ-loop
 returns c =
     let s = c .before in
-    filled-all (s .loop .m) (now (s .before .args .list)) (s .loop .i) (omega arith) (omega arith) (s .loop .inv .2)
+    filled-all (s .loop .m) (now (s .before .args .from)) (s .loop .i) (omega arith) (omega arith) (s .loop .inv .2)
 
 pub loaded-spec : {M : Type 1} → statement M
 loaded-spec =
