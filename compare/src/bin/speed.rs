@@ -2,6 +2,9 @@
 //! in one run and on the same inputs, and the ratio of the two. Both are
 //! called through the same interface, without inlining. The lists to fill are
 //! made once and not cleared between calls.
+//!
+//! With the first three words of a row as arguments it makes only that row's
+//! calls, once each: for a tool that counts instructions.
 
 use compare::capi::Proved;
 use compare::code::{radius, Card};
@@ -34,7 +37,9 @@ enum Damage {
 }
 
 fn main() {
-    print_row(["operation", "k", "damage", "proved ns", "rust ns", "ratio"]);
+    if std::env::args().len() == 1 {
+        print_row(["operation", "k", "damage", "proved ns", "rust ns", "ratio"]);
+    }
     encode_rows();
     syndrome_rows();
     rank_rows();
@@ -208,7 +213,15 @@ fn list<L: Library>(book: &[u8]) -> u64 {
 /// Measures both in turn and prints a line. Each runs `calls` calls.
 fn row(names: [&str; 3], calls: usize, proved: impl Fn() -> u64, rust: impl Fn() -> u64) {
     let [operation, k, damage] = names;
+    let wanted: Vec<String> = std::env::args().skip(1).collect();
+    if !wanted.is_empty() && wanted != names {
+        return;
+    }
     assert_eq!(proved(), rust(), "{operation} {k} {damage} disagree");
+    if !wanted.is_empty() {
+        println!("{operation} {k} {damage}: {calls} calls");
+        return;
+    }
     let (proved_repeats, rust_repeats) = (repeats(&proved), repeats(&rust));
     let (mut proved_time, mut rust_time) = (f64::INFINITY, f64::INFINITY);
     let start = Instant::now();
