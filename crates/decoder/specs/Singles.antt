@@ -1,16 +1,18 @@
 -- Errors of rank 1 or none as the code goes: k = 3, and the proposals for k = 4. Assumes nothing.
--- Main: without-single, without-is, single-is, single-message, three-near, four-none, four-near, four-found, four-over.
-use mathlib.Core.Path.{_≡_, sym, ap, ap₂, _∙_}
+-- Main: without-single, before-next, without-next, single-is, single-message, three-near, four-none, four-near, four-found, four-over.
+use mathlib.Core.Path.{_≡_, refl, sym, ap, ap₂, _∙_}
 use mathlib.Core.Logic.{_≢_}
 use mathlib.Core.Bool.{true}
-use mathlib.Core.List.{List, [], _∷_}
+use mathlib.Core.List.{List}
 use mathlib.Core.Option.{none, some}
-use Prim.Native.Nat.{ℕ, suc, _≤_, _<_}
-use native.Mathlib.Decide.{ℕ-discrete}
+use Prim.Native.Nat.{ℕ, zero, suc, _+_, _≤_, _<_}
+use native.Mathlib.Numerals.{add-one}
 use native.Mathlib.Omega.{arith}
+use lib.ListN.{length, take, set, getD}
+use lib.Seq.{getD-take}
 use borrow.Author.Tests.{eq-eqb, ne-eqb}
 use Rattle.algebra.specs.Field.{minus, times, cube, small, gamma}
-use Rattle.algebra.specs.Lists.{table, table-same, length-table}
+use Rattle.algebra.specs.Lists.{table, table-same, at-table, length-table}
 use Rattle.algebra.specs.Inverses.{inverse}
 use Rattle.algebra.specs.SmallField.{high}
 use Rattle.rank.specs.Definitions.{at, is-card}
@@ -21,35 +23,42 @@ use Rattle.coding.specs.Spectrum.{spectrum}
 use Rattle.coding.specs.RankOne.{next-error, chain, single}
 use Rattle.coding.specs.Decode.{if-near, decode}
 use Rattle.coding.specs.DecodeSingle.{decode-three, three-is-decode, last-error, first-small, attempt-four, decode-four, four-is-decode}
+use Rattle.codec.specs.Filling.{filled-next}
 use Rattle.decoder.specs.Finding.{first-at, first-all}
 use Rattle.decoder.specs.Places.{spectrum-at}
 
--- A SPECTRUM LESS THE ERROR whose coefficient before the last is u; the last place is not used
+-- A SPECTRUM LESS THE ERROR whose coefficient before the last is u
 unfoldable pub without-single : (r : ℕ → ℕ) → (u : ℕ) → List ℕ
-without-single r u =
-    minus (r 0) (chain u (r 5) 0) ∷ minus (r 1) (chain u (r 5) 1) ∷ minus (r 2) (chain u (r 5) 2) ∷ minus (r 3) (chain u (r 5) 3)
-    ∷ minus (r 4) (chain u (r 5) 4) ∷ 0 ∷ []
+without-single r u = table 6 (λ i. minus (r i) (chain u (r 5) i))
 
-pub without-is : (r : ℕ → ℕ) (u q e₀ e₁ e₂ e₃ e₄ d₀ d₁ d₂ d₃ d₄ : ℕ) → q ≡ times (r 5) (inverse (cube u)) → e₀ ≡ times q (cube (r 5)) → e₁ ≡ times q (cube e₀)
-    → e₂ ≡ times q (cube e₁) → e₃ ≡ times q (cube e₂) → e₄ ≡ times q (cube e₃) → d₀ ≡ minus (r 0) e₀ → d₁ ≡ minus (r 1) e₁ → d₂ ≡ minus (r 2) e₂
-    → d₃ ≡ minus (r 3) e₃ → d₄ ≡ minus (r 4) e₄ → d₀ ∷ d₁ ∷ d₂ ∷ d₃ ∷ d₄ ∷ 0 ∷ [] ≡ without-single r u
-unfolding without-single chain next-error
-without-is r u q e₀ e₁ e₂ e₃ e₄ d₀ d₁ d₂ d₃ d₄ hq h₀ h₁ h₂ h₃ h₄ g₀ g₁ g₂ g₃ g₄ = rw (g₀, g₁, g₂, g₃, g₄, h₄, h₃, h₂, h₁, h₀, hq)
+-- the loop: the coefficient of the error before number i, the next one, and what is left of the spectrum
+unfoldable pub before : (u v i : ℕ) → ℕ
+before u v zero = v
+before u v (suc i) = chain u v i
 
-single-read : (k : ℕ) → 1 ≤ k → k ≤ 4 → (r : ℕ → ℕ) (u : ℕ) → read (table (suc k) (at (without-single r u))) ≡ single k r u
-unfolding without-single single table at
-single-read k p q r u =
-    elim (ℕ-discrete k 1) [
-      | yes e ↦ rw e
-      | no d ↦ elim (ℕ-discrete k 2) [
-        | yes e ↦ rw e
-        | no f ↦ elim (ℕ-discrete k 3) [ yes e ↦ rw e | no g ↦ (let e : k ≡ 4 = omega arith in rw e) ]
-      ]
-    ]
+pub before-next : (u v i q e n : ℕ) → q ≡ times v (inverse (cube u)) → e ≡ before u v i → n ≡ times q (cube e) → n ≡ before u v (i + 1)
+unfolding before chain next-error
+before-next u v i q e n hq he hn = rw (hn, hq, he, add-one i) (step i)
+  where
+    step : (i : ℕ) → times (times v (inverse (cube u))) (cube (before u v i)) ≡ before u v (suc i)
+    step zero = refl
+    step (suc i) = refl
+
+pub without-next : (r : ℕ → ℕ) (u : ℕ) (f : List ℕ) (i e d : ℕ) → i < 6 → length f ≡ 6 → take i f ≡ take i (without-single r u) → e ≡ before u (r 5) (i + 1)
+    → d ≡ minus (r i) e → take (i + 1) (set f i d) ≡ take (i + 1) (without-single r u)
+unfolding without-single before
+without-next r u f i e d h l t he hd =
+    rw (hd ∙ ap (minus (r i)) (he ∙ ap (before u (r 5)) (add-one i)) ∙ sym (at-table 6 (λ j. minus (r j) (chain u (r 5) j)) i h))
+    (filled-next f (without-single r u) i (omega arith) (omega (arith, length-table 6 (λ j. minus (r j) (chain u (r 5) j)))) t)
 
 -- THE MESSAGE computed, and that it is one
-pub single-is : (k : ℕ) → 1 ≤ k → k ≤ 4 → (r : ℕ → ℕ) (u : ℕ) (f m : List ℕ) → f ≡ without-single r u → m ≡ read (table (suc k) (at f)) → m ≡ single k r u
-single-is k p q r u f m e h = rw (h, e) (single-read k p q r u)
+pub single-is : (k : ℕ) → k ≤ 4 → (r : ℕ → ℕ) (u : ℕ) (f m : List ℕ) → take (suc k) f ≡ take (suc k) (without-single r u) → m ≡ read (table (suc k) (at f)) → m ≡ single k r u
+unfolding single without-single at
+single-is k q r u f m t h = h ∙ ap read (table-same (suc k) _ _ (λ i p.
+    sym (getD-take (suc k) f i 0 p)
+    ∙ ap (λ (l : List ℕ). getD l i 0) t
+    ∙ getD-take (suc k) (table 6 (λ j. minus (r j) (chain u (r 5) j))) i 0 p
+    ∙ at-table 6 (λ j. minus (r j) (chain u (r 5) j)) i (omega arith)))
 
 pub single-message : (k : ℕ) → 1 ≤ k → (r : ℕ → ℕ) (u : ℕ) → is-message k (single k r u) ≡ true
 unfolding single

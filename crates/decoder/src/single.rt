@@ -2,7 +2,7 @@
 // decoding for k = 3; for k = 4 the first of the two is known but for the message's last number. Assumes nothing.
 ghost use mathlib.Core.Path.{_≡_};
 ghost use mathlib.Core.Bool.{true};
-ghost use Prim.Native.Nat.{_*_, _<_, _≤_};
+ghost use Prim.Native.Nat.{suc, _*_, _≤_};
 ghost use lib.ListN.{take};
 ghost use Rattle.algebra.specs.Field.{minus, times, cube};
 ghost use Rattle.algebra.specs.Lists.{table};
@@ -40,25 +40,21 @@ fn next_error(ratio: u16, x: u16, logs: &[u16; 729], powers: &[u16; 728]) -> u16
     field::product_with(ratio, field::cube_with(x, logs, powers), logs, powers)
 }
 
-// A spectrum less the error whose coefficient before the last is u; the last place is not used.
-fn without_single(r: [u16; 6], u: u16, logs: &[u16; 729], powers: &[u16; 728]) -> [u16; 6]
-    requires { ⌜ Tables (now logs) (now powers) ⌝ }
-    ensures { λ f. ⌜ f ≡ without-single (at r) u ⌝ }
+// The coefficients up to number k of a spectrum less the error whose coefficient before the last is u.
+fn without_single(k: usize, r: [u16; 6], u: u16, logs: &[u16; 729], powers: &[u16; 728]) -> [u16; 6]
+    requires { ⌜ (k ≤ 4) × Tables (now logs) (now powers) ⌝ }
+    ensures { λ f. ⌜ take (suc k) f ≡ take (suc k) (without-single (at r) u) ⌝ }
 {
     let q = ratio(u, r[5], logs, powers);
-    let e0 = next_error(q, r[5], logs, powers);
-    let e1 = next_error(q, e0, logs, powers);
-    let e2 = next_error(q, e1, logs, powers);
-    let e3 = next_error(q, e2, logs, powers);
-    let e4 = next_error(q, e3, logs, powers);
-    [
-        field::difference(r[0], e0),
-        field::difference(r[1], e1),
-        field::difference(r[2], e2),
-        field::difference(r[3], e3),
-        field::difference(r[4], e4),
-        0,
-    ]
+    let mut f = [0u16; 6];
+    let mut e = r[5];
+    let mut i = 0;
+    while i <= k {
+        e = next_error(q, e, logs, powers);
+        f[i] = field::difference(r[i], e);
+        i += 1;
+    }
+    f
 }
 
 // The message where the error has rank 1 or none.
@@ -72,7 +68,7 @@ pub(crate) fn single(
     requires { ⌜ (1 ≤ k) × (k ≤ 4) × Tables (now logs) (now powers) ⌝ }
     ensures { λ m. ⌜ take (2 * k) m ≡ single k (at r) u ⌝ }
 {
-    read_message(k, without_single(r, u, logs, powers))
+    read_message(k, without_single(k, r, u, logs, powers))
 }
 
 // The message near a card for k = 3, if there is one.

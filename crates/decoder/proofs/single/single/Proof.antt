@@ -8,7 +8,7 @@ use Rattle.decoder.proofs.single.single.Tie as tie
 returns : tie.Need-returns
 returns c =
     let s = c .before .before in
-    single-is (s .args .k) (s .pre .0) (s .pre .1) (at (s .args .r)) (s .args .u) _ _ (c .before .without-single .ensures) (c .read-message .ensures)
+    single-is (s .args .k) (s .pre .1) (at (s .args .r)) (s .args .u) _ _ (c .before .without-single .ensures) (c .read-message .ensures)
 
 pub single-spec : {M : Type 1} → statement M
 single-spec = tie.close (tie.spec (λ c κs. search needs) (λ c κs. search needs) returns)
