@@ -1,6 +1,6 @@
 -- Cards without damage: a test of the spectrum tells whether a card is a word, and then its message is read off. For k = 5, where no damage can
 -- be undone, that is all of decoding. Assumes nothing.
--- Main: none-from, shaped, shaped-decode, shaped-is-word, unshaped-five.
+-- Main: word-decode, none-from, shaped, shaped-decode, shaped-is-word, unshaped-five.
 use mathlib.Core.Path.{_≡_, sym, ap, _∙_}
 use mathlib.Core.Bool.{Bool, true, false, true≢false, _&&_}
 use mathlib.Core.List.{List}
@@ -17,12 +17,16 @@ use Rattle.algebra.specs.Tests.{both}
 use Rattle.algebra.specs.SmallField.{small-linear, low, high, low-linear, low-below, high-below, low-small}
 use Rattle.rank.specs.Definitions.{is-card}
 use Rattle.rank.specs.Distance.{apart-self, apart-zero}
-use Rattle.coding.specs.Code.{word, radius}
+use Rattle.coding.specs.Code.{word, is-message, radius}
 use Rattle.coding.specs.Coefficients.{word-card}
 use Rattle.coding.specs.Spectrum.{spectrum}
 use Rattle.coding.specs.WordSpectrum.{Shape, message-of, is-message-of, word-shaped, shaped-word}
 use Rattle.coding.specs.Decode.{decode}
 use Rattle.coding.specs.Proved.{decoded, decode-none}
+
+-- A WORD is decoded to its message
+pub word-decode : (k : ℕ) → 1 ≤ k → k ≤ 5 → (c : List ℕ) → is-card c ≡ true → (m : List ℕ) → is-message k m ≡ true → word k m ≡ c → decode k c ≡ some m
+word-decode k p q c card m u e = decoded k p q c card m .1 (record { message = u; within = rw (e, apart-self c) (omega arith) })
 
 -- THE TEST of a spectrum: no symbol from number i on, and the shape of a word's
 unfoldable pub none-from : (left i : ℕ) → (r : ℕ → ℕ) → Bool
@@ -56,10 +60,7 @@ module _ (k : ℕ) (p : 1 ≤ k) (q : k ≤ 5) (c : List ℕ) (card : is-card c 
   shaped-is-word = shaped-word k p q c card shape
 
   pub shaped-decode : decode k c ≡ some (message-of k c)
-  shaped-decode = decoded k p q c card (message-of k c) .1 (record {
-    message = is-message-of k p q c;
-    within = rw (shaped-is-word, apart-self c) (omega arith);
-  })
+  shaped-decode = word-decode k p q c card (message-of k c) (is-message-of k p q c) shaped-is-word
 
 -- A CARD THAT DOES NOT is none: for k = 5, where the radius is 0, none is near
 small-none : (h : ℕ) → h < 27 → small h ≡ 0 → h ≡ 0

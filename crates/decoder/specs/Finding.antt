@@ -1,14 +1,16 @@
 -- What decoding finds, as the code has it, and proposals held to the card one after the other. Assumes nothing.
--- Main: answer, Whole, found-long, first-at, first-next, near-some, near-none, six-difference.
+-- Main: answer, Whole, found-long, first-at, first-next, near-some, near-none, six-difference, same-next,
+-- same-end.
 use mathlib.Core.Path.{_≡_, refl, sym, ap, ap₂, _∙_}
 use mathlib.Core.Bool.{true, false, true≢false, cond}
-use mathlib.Core.List.{List}
+use mathlib.Core.List.{List, [], _∷_, _++_}
 use mathlib.Core.Option.{Option, none, some}
 use Prim.Native.Nat.{ℕ, zero, suc, _+_, _*_, _-_, _/_, _≤_, _<_}
 use native.Mathlib.Decide.{ℕ-discrete}
 use native.Mathlib.Numerals.{add-one}
 use native.Mathlib.Omega.{arith}
-use lib.ListN.{length, take, length-take}
+use lib.ListN.{length, take, getD, length-take}
+use lib.Seq.{take-suc, take-all}
 use borrow.Author.Tests.{le-leb, lt-leb}
 use Rattle.algebra.specs.Tests.{passed}
 use Rattle.rank.specs.Definitions.{difference, apart, is-card}
@@ -93,3 +95,13 @@ near-none k c m h e = rw (e, lt-leb (apart (word k m) c) ((6 - k) / 2) h)
 -- the difference of two arrays of six, entry by entry
 pub six-difference : (c d : List ℕ) → length c ≡ 6 → length d ≡ 6 → difference (entries c) (entries d) ≡ difference c d
 six-difference c d k l = ap₂ difference (six c k) (six d l)
+
+-- TWO ARRAYS OF SIX, compared entry by entry
+pub same-next : (c d : List ℕ) (i : ℕ) → i < length c → i < length d → take i c ≡ take i d → getD c i 0 ≡ getD d i 0 → take (i + 1) c ≡ take (i + 1) d
+same-next c d i h k e g =
+    rw (add-one i) (take-suc c i 0 h ∙ ap₂ (λ (l : List ℕ) (x : ℕ). l ++ (x ∷ [])) e g ∙ sym (take-suc d i 0 k))
+
+pub same-end : (c d : List ℕ) (i : ℕ) → length c ≡ 6 → length d ≡ 6 → 6 ≤ i → i ≤ 6 → take i c ≡ take i d → c ≡ d
+same-end c d i k l a b e =
+    let h : i ≡ 6 = omega arith in
+    sym (take-all 6 c (omega arith)) ∙ (rw h at e) ∙ take-all 6 d (omega arith)

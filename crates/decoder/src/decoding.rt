@@ -22,9 +22,9 @@ use refusal::Answer;
 use refusal::Outcome;
 use refusal::Refusal;
 
-// The message near a card that is no word. For k = 5 there is none.
+// The message near a card that is no word, for k from 2 on. For k = 5 there is none.
 fn decode_damaged(k: usize, card: [u16; 6], r: [u16; 6]) -> Found
-    requires { ⌜ (1 ≤ k) × (k ≤ 5) × (is-card card ≡ true) × (r ≡ table 6 (spectrum card)) × (shaped k (at r) ≡ false) ⌝ }
+    requires { ⌜ (2 ≤ k) × (k ≤ 5) × (is-card card ≡ true) × (r ≡ table 6 (spectrum card)) × (shaped k (at r) ≡ false) ⌝ }
     ensures { λ f. ⌜ (answer k f ≡ decode k card) × Whole k card f ⌝ }
 {
     if k == 5 {
@@ -32,9 +32,6 @@ fn decode_damaged(k: usize, card: [u16; 6], r: [u16; 6]) -> Found
     }
     let logs = field::logs();
     let powers = field::powers();
-    if k == 1 {
-        return decode_one(card, r, &logs, &powers);
-    }
     if k == 2 {
         return decode_two(card, r, &logs, &powers);
     }
@@ -49,6 +46,9 @@ pub fn decode_card(k: usize, card: [u16; 6]) -> Found
     requires { ⌜ (1 ≤ k) × (k ≤ 5) × (is-card card ≡ true) ⌝ }
     ensures { λ f. ⌜ (answer k f ≡ decode k card) × Whole k card f ⌝ }
 {
+    if k == 1 {
+        return decode_one(card);
+    }
     let r = codec::spectrum(card);
     if is_word(k, r) {
         return clean(k, card, r);

@@ -1,4 +1,5 @@
-// Decoding for k = 1: four of the error's coefficients are the card's, and the equations between them give the other two. Assumes nothing.
+// Decoding for k = 1. The first symbol of a card without damage shows the message: to encode it again takes less time than a spectrum. Else four of the
+// error's coefficients are the card's, and the equations between them give the other two. Assumes nothing.
 ghost use mathlib.Core.Path.{_≡_};
 ghost use mathlib.Core.Bool.{true};
 ghost use lib.ListN.{take};
@@ -13,6 +14,7 @@ ghost use Rattle.decoder.specs.Finding.{answer, Whole};
 ghost use Rattle.decoder.specs.Doubles.{Annihilates};
 use crate::found::Found;
 use crate::found::near;
+use crate::found::nothing;
 use crate::single::single;
 
 // The annihilator of the error, times a determinant: its lowest coefficient's inverse, its middle coefficient and the determinant.
@@ -96,13 +98,8 @@ fn double(r: [u16; 6], a: Annihilator, logs: &[u16; 729], powers: &[u16; 728]) -
     [field::low(f0), field::high(f1), 0, 0, 0, 0, 0, 0, 0, 0]
 }
 
-// The message near a card for k = 1, if there is one.
-pub(crate) fn decode_one(
-    card: [u16; 6],
-    r: [u16; 6],
-    logs: &[u16; 729],
-    powers: &[u16; 728],
-) -> Found
+// The message near a card for k = 1, if there is one, from its spectrum.
+fn decode_spectrum(card: [u16; 6], r: [u16; 6], logs: &[u16; 729], powers: &[u16; 728]) -> Found
     requires { ⌜ (is-card card ≡ true) × (r ≡ table 6 (spectrum card)) × Tables (now logs) (now powers) ⌝ }
     ensures { λ f. ⌜ (answer 1 f ≡ decode 1 card) × Whole 1 card f ⌝ }
 {
@@ -112,4 +109,51 @@ pub(crate) fn decode_one(
     }
     let a = annihilator_of(r, lead, logs, powers);
     near(card, 1, double(r, a, logs, powers))
+}
+
+// Two cards of which no symbol differs are the same.
+fn same(c: [u16; 6], d: [u16; 6]) -> bool
+    ensures { λ b. ⌜ (b ≡ true → c ≡ d) ⌝ }
+{
+    let mut i = 0;
+    while i < 6 {
+        if c[i] != d[i] {
+            return false;
+        }
+        i += 1;
+    }
+    true
+}
+
+// What the first symbol shows, if the card is its word.
+fn shown(card: [u16; 6]) -> Found
+    requires { ⌜ is-card card ≡ true ⌝ }
+    ensures { λ f. ⌜ (f .found ≡ true → answer 1 f ≡ decode 1 card) × Whole 1 card f ⌝ }
+{
+    let c = card[0];
+    let message = [field::low(c), field::high(c), 0, 0, 0, 0, 0, 0, 0, 0];
+    let word = codec::word_of(1, message);
+    if !same(word, card) {
+        return nothing();
+    }
+    Found {
+        found: true,
+        message,
+        word,
+        distance: 0,
+    }
+}
+
+// The message near a card for k = 1, if there is one.
+pub(crate) fn decode_one(card: [u16; 6]) -> Found
+    requires { ⌜ is-card card ≡ true ⌝ }
+    ensures { λ f. ⌜ (answer 1 f ≡ decode 1 card) × Whole 1 card f ⌝ }
+{
+    let f = shown(card);
+    if f.found {
+        return f;
+    }
+    let logs = field::logs();
+    let powers = field::powers();
+    decode_spectrum(card, codec::spectrum(card), &logs, &powers)
 }

@@ -18,17 +18,14 @@ returns c =
     )
 
 returns-2 : tie.Need-returns-2
-returns-2 c = rw (c .before .before .before .if2 .taken) (c .decode-one .ensures)
+returns-2 c = rw (c .before .before .before .if2 .taken) (c .decode-two .ensures)
 
 returns-3 : tie.Need-returns-3
-returns-3 c = rw (c .before .before .before .if3 .taken) (c .decode-two .ensures)
+returns-3 c = rw (c .before .before .before .if3 .taken) (c .decode-three .ensures)
 
 returns-4 : tie.Need-returns-4
-returns-4 c = rw (c .before .before .before .if4 .taken) (c .decode-three .ensures)
-
-returns-5 : tie.Need-returns-5
-returns-5 c =
-    let s = c .before .before .before .before .before .before .before .before .before in
+returns-4 c =
+    let s = c .before .before .before .before .before .before .before .before in
     let four : s .args .k ≡ 4 = omega arith in
     rw four (c .decode-four .ensures)
 
@@ -45,6 +42,4 @@ decode-damaged-spec =
     (λ c κs. search needs)
     returns-3
     (λ c κs. search needs)
-    returns-4
-    (λ c κs. search needs)
-    returns-5)
+    returns-4)
