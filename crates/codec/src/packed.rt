@@ -2,10 +2,11 @@
 // rests of the counts by 3 are taken once, at the end. Rows are given as constants, so that products with them need no table. Assumes nothing.
 ghost use mathlib.Core.Path.{_≡_};
 ghost use mathlib.Core.Bool.{false};
-ghost use Prim.Native.Nat.{ℕ, _+_, _≤_};
+ghost use Prim.Native.Nat.{ℕ, _+_, _*_, _%_, _≤_};
 ghost use lib.ListN.{getD};
 ghost use Rattle.algebra.specs.Field.{digits};
-ghost use Rattle.coding.specs.Packed.{«rows-above», raise, gather, symbol, settle};
+ghost use Rattle.coding.specs.Packed.{«rows-above», raise, gather, settle};
+ghost use Rattle.coding.specs.Rests.{rest, halves};
 
 // The six digits of a number.
 pub(crate) fn digits(x: u16) -> [u64; 6]
@@ -48,27 +49,47 @@ pub(crate) fn gathered(a: [u64; 4], d: [u64; 6], r: [[u64; 4]; 6]) -> [u64; 4]
     raised(s4, d[5], r[5])
 }
 
-// The symbol whose digits are the rests of three counts of v and three of w.
-fn symbol(v: u64, w: u64) -> u16
-    ensures { λ r. ⌜ r ≡ symbol v w ⌝ }
+// 3, 7 and 15 at each of nine counts.
+const THREES: u64 = 217874930004443523;
+
+const SEVENS: u64 = 508374836677034887;
+
+const FIFTEENS: u64 = 1089374650022217615;
+
+// The rests by 3 of nine counts, in their places. The digits of a count in base 16 have its rest, added up, as 16 is 1 more than a multiple of 3;
+// then those in base 4. That is at most 7, and 3 z / 8, rounded down, is then z / 3.
+fn rests(v: u64) -> u64
+    ensures same { λ r. ⌜ r ≡ rest v ⌝ }
+    ensures bound { λ r. ⌜ r ≤ 1000000000000000000 ⌝ }
 {
-    let r = v % 128 % 3
-        + 3 * (v / 128 % 128 % 3)
-        + 9 * (v / 16384 % 128 % 3)
-        + 27 * (w % 128 % 3)
-        + 81 * (w / 128 % 128 % 3)
-        + 243 * (w / 16384 % 128 % 3);
-    r as u16
+    let y = (v & FIFTEENS) + ((v / 16) & SEVENS);
+    let z = (y & THREES) + ((y / 4) & SEVENS);
+    z - 3 * ((3 * z / 8) & THREES)
+}
+
+// From each place on, the number of the three digits there.
+fn halves(v: u64) -> u64
+    ensures { λ r. ⌜ r ≡ halves v ⌝ }
+{
+    let r = rests(v);
+    r + 3 * (r / 128) + 9 * (r / 16384)
+}
+
+// The symbol of two halves, the lowest of v and w.
+fn symbol(v: u64, w: u64) -> u16
+    ensures { λ r. ⌜ r ≡ v % 128 + 27 * (w % 128) ⌝ }
+{
+    (v % 128 + 27 * (w % 128)) as u16
 }
 
 // The six symbols that the counts stand for.
 pub(crate) fn settled(a: [u64; 4]) -> [u16; 6]
     ensures { λ r. ⌜ r ≡ settle a ⌝ }
 {
-    let p = a[0];
-    let q = a[1];
-    let r = a[2];
-    let s = a[3];
+    let p = halves(a[0]);
+    let q = halves(a[1]);
+    let r = halves(a[2]);
+    let s = halves(a[3]);
     [
         symbol(p, p / 2097152),
         symbol(p / 4398046511104, q),

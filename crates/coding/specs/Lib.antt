@@ -36,5 +36,6 @@ pub mod DecodeSingle
 pub mod LowRank
 -- Linear functions by packed digits
 pub mod Packed
+pub mod Rests
 pub mod Transforms
 pub mod Slots

@@ -167,12 +167,6 @@ settle a = table 6 (λ j. number-of (table 6 (λ u. lane (getD a ((6 * j + u) / 
 unfoldable pub symbol : (v w : ℕ) → ℕ
 symbol v w = number-of (lane v 0 ∷ lane v 1 ∷ lane v 2 ∷ lane w 0 ∷ lane w 1 ∷ lane w 2 ∷ [])
 
-pub symbol-is : (v w : ℕ)
-    → v % 128 % 3 + 3 * (v / 128 % 128 % 3) + 9 * (v / 16384 % 128 % 3) + 27 * (w % 128 % 3) + 81 * (w / 128 % 128 % 3) + 243 * (w / 16384 % 128 % 3)
-    ≡ symbol v w
-unfolding symbol lane number-of
-symbol-is v w = simp div-div-eq-div-mul (omega arith)
-
 pub settle-six : (a : List ℕ)
     → symbol (getD a 0 0) (getD a 0 0 / 2097152) ∷ symbol (getD a 0 0 / 4398046511104) (getD a 1 0)
     ∷ symbol (getD a 1 0 / 2097152) (getD a 1 0 / 4398046511104) ∷ symbol (getD a 2 0) (getD a 2 0 / 2097152)
