@@ -49,10 +49,14 @@ fn main() {
 
 fn encode_rows() {
     for k in 1..=5 {
+        let names = ["encode", &k.to_string(), "-"];
+        if !is_wanted(names) {
+            continue;
+        }
         let random = &mut Random::new(k.into());
         let messages: Vec<Vec<u16>> = (0..INPUTS).map(|_| samples::message(random, k)).collect();
         row(
-            ["encode", &k.to_string(), "-"],
+            names,
             INPUTS,
             || encode_all::<Proved>(k, &messages),
             || encode_all::<Fast>(k, &messages),
@@ -62,9 +66,13 @@ fn encode_rows() {
 
 fn syndrome_rows() {
     for k in 1..=5 {
+        let names = ["syndrome", &k.to_string(), &radius(k).to_string()];
+        if !is_wanted(names) {
+            continue;
+        }
         let cards = cards(k, Damage::Rank(radius(k)), INPUTS);
         row(
-            ["syndrome", &k.to_string(), &radius(k).to_string()],
+            names,
             INPUTS,
             || syndrome_all::<Proved>(k, &cards),
             || syndrome_all::<Fast>(k, &cards),
@@ -74,12 +82,16 @@ fn syndrome_rows() {
 
 fn rank_rows() {
     for rank in 0..=6 {
+        let names = ["rank", "-", &rank.to_string()];
+        if !is_wanted(names) {
+            continue;
+        }
         let random = &mut Random::new(rank.into());
         let cards: Vec<Card> = (0..INPUTS)
             .map(|_| samples::damaged(random, &[0; 6], rank))
             .collect();
         row(
-            ["rank", "-", &rank.to_string()],
+            names,
             INPUTS,
             || rank_all::<Proved>(&cards),
             || rank_all::<Fast>(&cards),
@@ -90,9 +102,13 @@ fn rank_rows() {
 fn decode_rows() {
     for k in 1..=5 {
         for damage in damages(k) {
+            let names = ["decode", &k.to_string(), &damage.name()];
+            if !is_wanted(names) {
+                continue;
+            }
             let cards = cards(k, damage, INPUTS);
             row(
-                ["decode", &k.to_string(), &damage.name()],
+                names,
                 INPUTS,
                 || decode_all::<Proved>(k, &cards),
                 || decode_all::<Fast>(k, &cards),
@@ -104,14 +120,13 @@ fn decode_rows() {
 /// One book of each kind, timed as a whole.
 fn listing_rows() {
     for damage in damages(2) {
+        let names = ["listing", "2", &damage.name()];
+        if !is_wanted(names) {
+            continue;
+        }
         let cards = cards(2, damage, FULL_BOOK);
         let book = samples::book(&[(1, samples::body(&cards))]);
-        row(
-            ["listing", "2", &damage.name()],
-            1,
-            || list::<Proved>(&book),
-            || list::<Fast>(&book),
-        );
+        row(names, 1, || list::<Proved>(&book), || list::<Fast>(&book));
     }
 }
 
@@ -210,15 +225,17 @@ fn list<L: Library>(book: &[u8]) -> u64 {
     sum + u64::from(ticks)
 }
 
+/// Whether a row is to be measured: all are, if no row is named.
+fn is_wanted(names: [&str; 3]) -> bool {
+    let wanted: Vec<String> = std::env::args().skip(1).collect();
+    wanted.is_empty() || wanted == names
+}
+
 /// Measures both in turn and prints a line. Each runs `calls` calls.
 fn row(names: [&str; 3], calls: usize, proved: impl Fn() -> u64, rust: impl Fn() -> u64) {
     let [operation, k, damage] = names;
-    let wanted: Vec<String> = std::env::args().skip(1).collect();
-    if !wanted.is_empty() && wanted != names {
-        return;
-    }
     assert_eq!(proved(), rust(), "{operation} {k} {damage} disagree");
-    if !wanted.is_empty() {
+    if std::env::args().len() > 1 {
         println!("{operation} {k} {damage}: {calls} calls");
         return;
     }
