@@ -19,8 +19,8 @@ use Rattle.rank.specs.Definitions.{at, is-card, apart}
 use Rattle.coding.specs.Code.{word, is-message}
 use Rattle.coding.specs.Decode.{decode, decode-answers, answer-near}
 use Rattle.codec.specs.Answers.{undecodable, found, decoded-word}
-use Rattle.decoder.specs.declared.found.Found.{Found}
-use Rattle.decoder.specs.Finding.{answer, Whole, answer-some, answer-none}
+use Rattle.candidate.specs.declared.found.Found.{Found}
+use Rattle.candidate.specs.Finding.{answer, Whole, answer-some, answer-none}
 use Rattle.book.specs.Layout.{big, body-good, symbols-from, card}
 use Rattle.book.specs.Reading.{delay-of, only, struck, card-refusal, said, cards-in, no-card, read-refusal, reading}
 use Rattle.book.specs.Accepted.{neither}

@@ -24,8 +24,8 @@ use Rattle.coding.specs.Algebraic.{det, numerator, key, ninth, middle, first-er
 use Rattle.coding.specs.RankOne.{single}
 use Rattle.coding.specs.DecodeTwo.{attempt, decode-two, two-is-decode}
 use Rattle.coding.specs.DecodeOne.{minor, lead, mean, solved, zeroth, first, double, decode-one, one-is-decode}
-use Rattle.decoder.specs.Finding.{first-at, first-all}
-use Rattle.decoder.specs.Places.{spectrum-at}
+use Rattle.candidate.specs.Finding.{first-at, first-all}
+use Rattle.candidate.specs.Places.{spectrum-at}
 use Rattle.decoder.specs.Singles.{single-spectrum}
 use Rattle.decoder.specs.declared.one.Annihilator.{Annihilator}
 use Rattle.decoder.specs.declared.two.Shared.{Shared}

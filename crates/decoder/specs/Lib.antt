@@ -1,7 +1,4 @@
 -- Decoding in code: what the code's values stand for, and the proofs' steps. In reading order.
--- What is found, and messages in arrays
-pub mod Finding
-pub mod Places
 -- Errors of rank 1 or none: k = 3 and 4
 pub mod Singles
 -- Errors of rank 2: k = 1 and 2

@@ -24,8 +24,8 @@ use Rattle.coding.specs.RankOne.{next-error, chain, single}
 use Rattle.coding.specs.Decode.{if-near, decode}
 use Rattle.coding.specs.DecodeSingle.{decode-three, three-is-decode, last-error, first-small, attempt-four, decode-four, four-is-decode}
 use Rattle.codec.specs.Filling.{filled-next}
-use Rattle.decoder.specs.Finding.{first-at, first-all}
-use Rattle.decoder.specs.Places.{spectrum-at}
+use Rattle.candidate.specs.Finding.{first-at, first-all}
+use Rattle.candidate.specs.Places.{spectrum-at}
 
 -- A SPECTRUM LESS THE ERROR whose coefficient before the last is u
 unfoldable pub without-single : (r : ℕ → ℕ) → (u : ℕ) → List ℕ

@@ -1,13 +1,9 @@
 // Decoding (document 01: Mend): the message near a card, computed from the card's spectrum. A card without damage is told by its spectrum
 // alone; else the error's coefficients are computed, by the equations that those of an error within the radius satisfy.
-mod clean;
 mod decoding;
-mod found;
-mod message;
 mod one;
 mod single;
 mod two;
 
 pub use decoding::decode;
 pub use decoding::decode_card;
-pub use found::Found;

@@ -10,12 +10,12 @@ ghost use Rattle.field.specs.Tables.{Tables};
 ghost use Rattle.coding.specs.Spectrum.{spectrum};
 ghost use Rattle.coding.specs.DecodeOne.{lead, mean, minor, double};
 ghost use Rattle.coding.specs.Decode.{decode};
-ghost use Rattle.decoder.specs.Finding.{answer, Whole};
+ghost use Rattle.candidate.specs.Finding.{answer, Whole};
 ghost use Rattle.decoder.specs.Doubles.{Annihilates};
-use crate::found::Found;
-use crate::found::near;
-use crate::found::nothing;
 use crate::single::single;
+use candidate::Found;
+use candidate::near;
+use candidate::nothing;
 
 // The annihilator of the error, times a determinant: its lowest coefficient's inverse, its middle coefficient and the determinant.
 pub struct Annihilator {

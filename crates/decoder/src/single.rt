@@ -13,12 +13,12 @@ ghost use Rattle.coding.specs.Spectrum.{spectrum};
 ghost use Rattle.coding.specs.RankOne.{next-error, single};
 ghost use Rattle.coding.specs.DecodeSingle.{last-error, attempt-four};
 ghost use Rattle.coding.specs.Decode.{decode};
-ghost use Rattle.decoder.specs.Finding.{answer, Whole};
+ghost use Rattle.candidate.specs.Finding.{answer, Whole};
 ghost use Rattle.decoder.specs.Singles.{without-single};
-use crate::found::Found;
-use crate::found::near;
-use crate::found::nothing;
-use crate::message::read_message;
+use candidate::Found;
+use candidate::near;
+use candidate::nothing;
+use candidate::read_message;
 
 // What a cube is multiplied by, where v comes after u.
 fn ratio(u: u16, v: u16, logs: &[u16; 729], powers: &[u16; 728]) -> u16

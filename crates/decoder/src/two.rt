@@ -12,12 +12,12 @@ ghost use Rattle.coding.specs.Spectrum.{spectrum};
 ghost use Rattle.coding.specs.Algebraic.{key};
 ghost use Rattle.coding.specs.Decode.{decode};
 ghost use Rattle.coding.specs.DecodeTwo.{attempt};
-ghost use Rattle.decoder.specs.Finding.{answer, Whole};
+ghost use Rattle.candidate.specs.Finding.{answer, Whole};
 ghost use Rattle.decoder.specs.Doubles.{Prepared};
-use crate::found::Found;
-use crate::found::near;
-use crate::found::nothing;
 use crate::single::single;
+use candidate::Found;
+use candidate::near;
+use candidate::nothing;
 
 // 1 / gamma^9
 const GAMMA_BACK: u16 = 684;

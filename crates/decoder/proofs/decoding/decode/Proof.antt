@@ -12,7 +12,7 @@ use borrow.Author.Tests.{not-true, not-false}
 use Rattle.rank.specs.Definitions.{apart}
 use Rattle.coding.specs.Code.{word}
 use Rattle.codec.specs.Refusals.{no-refusal, decode-passed, decoded-refused, decoded-none, decoded-done}
-use Rattle.decoder.specs.Finding.{answer-some, answer-none, found-long}
+use Rattle.candidate.specs.Finding.{answer-some, answer-none, found-long}
 use Rattle.decoder.proofs.decoding.decode.Statement.{statement}
 use Rattle.decoder.proofs.decoding.decode.Tie as tie
 

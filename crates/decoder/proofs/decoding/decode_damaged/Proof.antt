@@ -2,8 +2,8 @@
 use mathlib.Core.Path.{_≡_, sym, _∙_}
 use native.Mathlib.Omega.{arith}
 use Rattle.coding.specs.Clean.{unshaped-five}
-use Rattle.decoder.specs.Finding.{answer-none, whole-none}
-use Rattle.decoder.specs.Places.{clean-shaped}
+use Rattle.candidate.specs.Finding.{answer-none, whole-none}
+use Rattle.candidate.specs.Places.{clean-shaped}
 use borrow.Author.Needs.{needs}
 use Rattle.decoder.proofs.decoding.decode_damaged.Statement.{statement}
 use Rattle.decoder.proofs.decoding.decode_damaged.Tie as tie

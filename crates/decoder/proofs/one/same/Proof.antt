@@ -4,7 +4,7 @@ use mathlib.Core.Bool.{true≢false}
 use Prim.Native.Nat.{_-_, _≤_}
 use native.Mathlib.Omega.{arith}
 use lib.ListN.{take}
-use Rattle.decoder.specs.Finding.{same-next, same-end}
+use Rattle.candidate.specs.Finding.{same-next, same-end}
 use borrow.Author.Needs.{needs}
 use Rattle.decoder.proofs.one.same.Statement.{statement}
 use Rattle.decoder.proofs.one.same.Tie as tie

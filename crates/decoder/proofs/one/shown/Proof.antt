@@ -8,7 +8,7 @@ use borrow.Author.Tests.{not-false}
 use Rattle.rank.specs.Definitions.{apart}
 use Rattle.rank.specs.Distance.{apart-self}
 use Rattle.coding.specs.Clean.{word-decode}
-use Rattle.decoder.specs.Finding.{answer, whole-none}
+use Rattle.candidate.specs.Finding.{answer, whole-none}
 use Rattle.decoder.specs.Doubles.{parts-message}
 use borrow.Author.Needs.{needs}
 use Rattle.decoder.proofs.one.shown.Statement.{statement}

@@ -2,7 +2,7 @@
 use mathlib.Core.Path.{sym, _∙_}
 use lib.Dec.{lit≤}
 use Rattle.rank.specs.Definitions.{at}
-use Rattle.decoder.specs.Finding.{answer-none, whole-none}
+use Rattle.candidate.specs.Finding.{answer-none, whole-none}
 use Rattle.decoder.specs.Singles.{single-message, four-none, four-near}
 use borrow.Author.Needs.{needs}
 use Rattle.decoder.proofs.single.attempt_four.Statement.{statement}

@@ -7,7 +7,7 @@ use lib.Dec.{lit≤}
 use borrow.Author.Needs.{needs}
 use Rattle.coding.specs.Options.{first-of}
 use Rattle.coding.specs.DecodeSingle.{attempt-four}
-use Rattle.decoder.specs.Finding.{answer-some, answer-none, whole-none, first-none, first-next}
+use Rattle.candidate.specs.Finding.{answer-some, answer-none, whole-none, first-none, first-next}
 use Rattle.decoder.specs.Singles.{four-found, four-over}
 use Rattle.decoder.proofs.single.decode_four.Statement.{statement}
 use Rattle.decoder.proofs.single.decode_four.Tie as tie

@@ -7,7 +7,7 @@ use Rattle.coding.specs.Code.{is-message}
 use Rattle.coding.specs.Spectrum.{spectrum}
 use Rattle.coding.specs.Algebraic.{ninth, first-error, proposed}
 use Rattle.coding.specs.Decode.{if-near}
-use Rattle.decoder.specs.Finding.{answer-none, whole-none}
+use Rattle.candidate.specs.Finding.{answer-none, whole-none}
 use Rattle.decoder.specs.Doubles.{ninth-is, middle-is, proposed-is, proposed-message, attempt-none, attempt-some}
 use borrow.Author.Needs.{needs}
 use Rattle.decoder.proofs.two.attempt.Statement.{statement}

@@ -8,7 +8,7 @@ use borrow.Author.Needs.{needs}
 use Rattle.rank.specs.Definitions.{at}
 use Rattle.coding.specs.Options.{first-of}
 use Rattle.coding.specs.DecodeTwo.{attempt}
-use Rattle.decoder.specs.Finding.{answer-some, answer-none, whole-none, first-none, first-next}
+use Rattle.candidate.specs.Finding.{answer-some, answer-none, whole-none, first-none, first-next}
 use Rattle.decoder.specs.Singles.{single-message}
 use Rattle.decoder.specs.Doubles.{prepared-of, two-single, two-found, two-none}
 use Rattle.decoder.proofs.two.decode_two.Statement.{statement}

@@ -1,8 +1,8 @@
--- `decoder::message::read_message` meets its contract: the numbers but for the last, and that one. Assumes nothing.
-use Rattle.decoder.specs.Places.{message-is}
+-- `candidate::message::read_message` meets its contract: the numbers but for the last, and that one. Assumes nothing.
+use Rattle.candidate.specs.Places.{message-is}
 use borrow.Author.Needs.{needs}
-use Rattle.decoder.proofs.message.read_message.Statement.{statement}
-use Rattle.decoder.proofs.message.read_message.Tie as tie
+use Rattle.candidate.proofs.message.read_message.Statement.{statement}
+use Rattle.candidate.proofs.message.read_message.Tie as tie
 
 returns : tie.Need-returns
 returns c =

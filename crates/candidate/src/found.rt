@@ -6,7 +6,7 @@ ghost use lib.ListN.{take};
 ghost use Rattle.rank.specs.Definitions.{difference};
 ghost use Rattle.coding.specs.Code.{is-message};
 ghost use Rattle.coding.specs.Decode.{if-near};
-ghost use Rattle.decoder.specs.Finding.{answer, Whole};
+ghost use Rattle.candidate.specs.Finding.{answer, Whole};
 
 // The message near a card, in the first 2k places, with its word and how far that is from the card; or none.
 pub struct Found {
@@ -16,7 +16,7 @@ pub struct Found {
     pub distance: u8,
 }
 
-pub(crate) fn nothing() -> Found
+pub fn nothing() -> Found
     ensures { λ r. ⌜ r .found ≡ false ⌝ }
 {
     Found {
@@ -41,7 +41,7 @@ fn difference(c: [u16; 6], d: [u16; 6]) -> [u16; 6]
 }
 
 // A message with its word, where that is within the radius of the card.
-pub(crate) fn near(card: [u16; 6], k: usize, message: [u16; 10]) -> Found
+pub fn near(card: [u16; 6], k: usize, message: [u16; 10]) -> Found
     requires { ⌜ (1 ≤ k) × (k ≤ 5) × (is-message k (take (2 * k) message) ≡ true) ⌝ }
     ensures { λ r. ⌜ (answer k r ≡ if-near k card (take (2 * k) message)) × Whole k card r ⌝ }
 {

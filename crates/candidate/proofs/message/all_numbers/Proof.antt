@@ -1,8 +1,8 @@
--- `decoder::message::all_numbers` meets its contract, number by number. Assumes nothing.
-use Rattle.decoder.specs.Places.{all-places}
+-- `candidate::message::all_numbers` meets its contract, number by number. Assumes nothing.
+use Rattle.candidate.specs.Places.{all-places}
 use borrow.Author.Needs.{needs}
-use Rattle.decoder.proofs.message.all_numbers.Statement.{statement}
-use Rattle.decoder.proofs.message.all_numbers.Tie as tie
+use Rattle.candidate.proofs.message.all_numbers.Statement.{statement}
+use Rattle.candidate.proofs.message.all_numbers.Tie as tie
 
 returns : tie.Need-returns
 unfolding all-places

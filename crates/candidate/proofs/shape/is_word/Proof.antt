@@ -1,12 +1,12 @@
--- `decoder::clean::is_word` meets its contract: each test on the way decides one test of the definition. Assumes nothing.
+-- `candidate::shape::is_word` meets its contract: each test on the way decides one test of the definition. Assumes nothing.
 use mathlib.Core.Path.{sym, _∙_}
 use Rattle.algebra.specs.SmallField.{low, high}
 use Rattle.rank.specs.Definitions.{at}
 use borrow.Author.Tests.{eq-eqb, ne-eqb}
 use Rattle.coding.specs.Clean.{shaped}
 use borrow.Author.Needs.{needs}
-use Rattle.decoder.proofs.clean.is_word.Statement.{statement}
-use Rattle.decoder.proofs.clean.is_word.Tie as tie
+use Rattle.candidate.proofs.shape.is_word.Statement.{statement}
+use Rattle.candidate.proofs.shape.is_word.Tie as tie
 
 returns : tie.Need-returns
 unfolding shaped at

@@ -1,13 +1,13 @@
--- `decoder::clean::none_beyond` meets its contract. The loop's invariant: the test from i on is the whole test. Assumes nothing.
+-- `candidate::shape::none_beyond` meets its contract. The loop's invariant: the test from i on is the whole test. Assumes nothing.
 use mathlib.Core.Path.{ap₂}
 use Prim.Native.Nat.{ℕ, suc, _+_, _-_, _≤_}
 use native.Mathlib.Omega.{arith}
 use Rattle.rank.specs.Definitions.{at}
 use Rattle.coding.specs.Clean.{none-from}
-use Rattle.decoder.specs.Places.{From, from-next, from-some, from-end}
+use Rattle.candidate.specs.Places.{From, from-next, from-some, from-end}
 use borrow.Author.Needs.{needs}
-use Rattle.decoder.proofs.clean.none_beyond.Statement.{statement}
-use Rattle.decoder.proofs.clean.none_beyond.Tie as tie
+use Rattle.candidate.proofs.shape.none_beyond.Statement.{statement}
+use Rattle.candidate.proofs.shape.none_beyond.Tie as tie
 
 abbrev Inv-loop : tie.InvT-loop
 Inv-loop k r i₀ i = (k + 1 ≤ i) × (i ≤ 6) × From i r (5 - k) (suc k)

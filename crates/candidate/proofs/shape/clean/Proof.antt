@@ -1,14 +1,14 @@
--- `decoder::clean::clean` meets its contract: the card is the word of the message read off its spectrum. Assumes nothing.
+-- `candidate::shape::clean` meets its contract: the card is the word of the message read off its spectrum. Assumes nothing.
 use mathlib.Core.Path.{sym, ap, _∙_}
 use mathlib.Core.Option.{some}
 use Rattle.rank.specs.Distance.{apart-self}
 use Rattle.coding.specs.Code.{word}
 use Rattle.coding.specs.Clean.{shaped-decode, shaped-is-word}
-use Rattle.decoder.specs.Finding.{answer}
-use Rattle.decoder.specs.Places.{clean-message, clean-shaped}
+use Rattle.candidate.specs.Finding.{answer}
+use Rattle.candidate.specs.Places.{clean-message, clean-shaped}
 use borrow.Author.Needs.{needs}
-use Rattle.decoder.proofs.clean.clean.Statement.{statement}
-use Rattle.decoder.proofs.clean.clean.Tie as tie
+use Rattle.candidate.proofs.shape.clean.Statement.{statement}
+use Rattle.candidate.proofs.shape.clean.Tie as tie
 
 returns : tie.Need-returns
 unfolding answer

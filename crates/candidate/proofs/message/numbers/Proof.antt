@@ -1,8 +1,8 @@
--- `decoder::message::numbers` meets its contract: k decides. Assumes nothing.
+-- `candidate::message::numbers` meets its contract: k decides. Assumes nothing.
 use native.Mathlib.Omega.{arith}
 use borrow.Author.Needs.{needs}
-use Rattle.decoder.proofs.message.numbers.Statement.{statement}
-use Rattle.decoder.proofs.message.numbers.Tie as tie
+use Rattle.candidate.proofs.message.numbers.Statement.{statement}
+use Rattle.candidate.proofs.message.numbers.Tie as tie
 
 returns : tie.Need-returns
 returns c = (λ h. c .few-numbers .ensures, λ h. absurd (omega arith))

@@ -1,8 +1,8 @@
--- `decoder::message::few_numbers` meets its contract, number by number. Assumes nothing.
-use Rattle.decoder.specs.Places.{few-places}
+-- `candidate::message::few_numbers` meets its contract, number by number. Assumes nothing.
+use Rattle.candidate.specs.Places.{few-places}
 use borrow.Author.Needs.{needs}
-use Rattle.decoder.proofs.message.few_numbers.Statement.{statement}
-use Rattle.decoder.proofs.message.few_numbers.Tie as tie
+use Rattle.candidate.proofs.message.few_numbers.Statement.{statement}
+use Rattle.candidate.proofs.message.few_numbers.Tie as tie
 
 returns : tie.Need-returns
 unfolding few-places

@@ -1,13 +1,13 @@
--- `decoder::found::near` meets its contract: the distance of the message's word decides. Assumes nothing.
+-- `candidate::found::near` meets its contract: the distance of the message's word decides. Assumes nothing.
 use mathlib.Core.Path.{sym, ap, _∙_}
 use mathlib.Core.List.{List}
 use Prim.Native.Nat.{ℕ, _*_}
 use lib.ListN.{take}
 use borrow.Author.Needs.{needs}
 use Rattle.rank.specs.Definitions.{rank, difference, apart}
-use Rattle.decoder.specs.Finding.{answer, answer-none, whole-none, near-some, near-none}
-use Rattle.decoder.proofs.found.near.Statement.{statement}
-use Rattle.decoder.proofs.found.near.Tie as tie
+use Rattle.candidate.specs.Finding.{answer, answer-none, whole-none, near-some, near-none}
+use Rattle.candidate.proofs.found.near.Statement.{statement}
+use Rattle.candidate.proofs.found.near.Tie as tie
 
 returns : tie.Need-returns
 unfolding apart

@@ -20,7 +20,7 @@ use Rattle.coding.specs.Coefficients.{word-long}
 use Rattle.coding.specs.Options.{or-else, first-of}
 use Rattle.coding.specs.Decode.{is-near, if-near, decode}
 use Rattle.coding.specs.Proved.{decoded}
-use Rattle.decoder.specs.declared.found.Found.{Found}
+use Rattle.candidate.specs.declared.found.Found.{Found}
 
 -- WHAT WAS FOUND
 unfoldable pub answer : (k : ℕ) → Found → Option (List ℕ)

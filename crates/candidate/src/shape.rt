@@ -8,7 +8,7 @@ ghost use Rattle.rank.specs.Definitions.{at, is-card};
 ghost use Rattle.coding.specs.Spectrum.{spectrum};
 ghost use Rattle.coding.specs.Clean.{none-from, shaped};
 ghost use Rattle.coding.specs.Decode.{decode};
-ghost use Rattle.decoder.specs.Finding.{answer, Whole};
+ghost use Rattle.candidate.specs.Finding.{answer, Whole};
 use crate::found::Found;
 use crate::message::read_message;
 
@@ -28,7 +28,7 @@ fn none_beyond(k: usize, r: [u16; 6]) -> bool
 }
 
 // Whether a spectrum is that of a word.
-pub(crate) fn is_word(k: usize, r: [u16; 6]) -> bool
+pub fn is_word(k: usize, r: [u16; 6]) -> bool
     requires { ⌜ (1 ≤ k) × (k ≤ 5) ⌝ }
     ensures { λ b. ⌜ b ≡ shaped k (at r) ⌝ }
 {
@@ -42,7 +42,7 @@ pub(crate) fn is_word(k: usize, r: [u16; 6]) -> bool
 }
 
 // What is found in a card that is a word.
-pub(crate) fn clean(k: usize, card: [u16; 6], r: [u16; 6]) -> Found
+pub fn clean(k: usize, card: [u16; 6], r: [u16; 6]) -> Found
     requires { ⌜ (1 ≤ k) × (k ≤ 5) × (is-card card ≡ true) × (r ≡ table 6 (spectrum card)) × (shaped k (at r) ≡ true) ⌝ }
     ensures { λ f. ⌜ (answer k f ≡ decode k card) × Whole k card f ⌝ }
 {

@@ -1,12 +1,12 @@
--- `decoder::found::difference` meets its contract: six entries of the difference. Assumes nothing.
+-- `candidate::found::difference` meets its contract: six entries of the difference. Assumes nothing.
 use mathlib.Core.Path.{refl, _∙_}
 use native.Mathlib.Omega.{arith}
 use Rattle.algebra.specs.Lists.{cons}
 use Rattle.rank.specs.Definitions.{difference}
-use Rattle.decoder.specs.Finding.{six-difference}
+use Rattle.candidate.specs.Finding.{six-difference}
 use borrow.Author.Needs.{needs}
-use Rattle.decoder.proofs.found.difference.Statement.{statement}
-use Rattle.decoder.proofs.found.difference.Tie as tie
+use Rattle.candidate.proofs.found.difference.Statement.{statement}
+use Rattle.candidate.proofs.found.difference.Tie as tie
 
 returns : tie.Need-returns
 unfolding difference

@@ -6,7 +6,7 @@ ghost use lib.ListN.{take};
 ghost use Rattle.algebra.specs.Lists.{table};
 ghost use Rattle.rank.specs.Definitions.{at};
 ghost use Rattle.coding.specs.Coefficients.{read};
-ghost use Rattle.decoder.specs.Places.{few-places, all-places};
+ghost use Rattle.candidate.specs.Places.{few-places, all-places};
 
 // What k = 1 and 2 need of it, but for the last number.
 fn few_numbers(f: [u16; 6]) -> [u16; 10]
@@ -56,7 +56,7 @@ fn numbers(k: usize, f: [u16; 6]) -> [u16; 10]
 }
 
 // The message for k, in the first 2k places.
-pub(crate) fn read_message(k: usize, f: [u16; 6]) -> [u16; 10]
+pub fn read_message(k: usize, f: [u16; 6]) -> [u16; 10]
     requires { ⌜ (1 ≤ k) × (k ≤ 5) ⌝ }
     ensures { λ r. ⌜ take (2 * k) r ≡ read (table (suc k) (at f)) ⌝ }
 {

@@ -1,0 +1,3 @@
+-- Candidates in code: what was found, and messages in arrays. In reading order.
+pub mod Finding
+pub mod Places

@@ -1,0 +1,12 @@
+// Candidates of decoding (document 01: Mend): a message read off the coefficients of a polynomial, and held to a card; and cards without damage, whose
+// message needs no computing.
+mod found;
+mod message;
+mod shape;
+
+pub use found::Found;
+pub use found::near;
+pub use found::nothing;
+pub use message::read_message;
+pub use shape::clean;
+pub use shape::is_word;
