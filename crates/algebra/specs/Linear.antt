@@ -7,7 +7,7 @@ use Prim.Native.Nat.{ℕ, zero, suc, _+_, _*_, _/_, _%_, _^_, _≤_, _<_}
 use native.Mathlib.Nat.{mod-eq-of-lt, mod-lt, pow-suc}
 use native.Mathlib.Omega.{arith}
 use lib.Dec.{eqb, lit<}
-use lib.ListN.{length, getD, take, length-take}
+use lib.ListN.{length, getD}
 use Rattle.algebra.specs.Field.{digits-of, number-of, digits, added, add, scaled, scale, minus, reduced, shifted, times-from, times, cube, risen, small}
 use Rattle.algebra.specs.Tests.{every, tested}
 use Rattle.algebra.specs.Digits.{digit, digit-add, add-zero, add-below, scale-zero, scale-suc, scale-add, scale-same, scale-below}
@@ -78,15 +78,6 @@ combination-cons w ws v h = ap (add _) (enough 5 ws (v / 3) h)
     enough n [] v h = refl
     enough zero (w ∷ ws) v h = absurd (omega arith)
     enough (suc n) (w ∷ ws) v h = ap (add _) (enough n ws (v / 3) (omega arith))
-
--- a number of n digits takes only the first n symbols
-pub combination-take : (n : ℕ) (ws : List ℕ) (i : ℕ) → length ws ≤ 6 → i < 3 ^ n → combination (take n ws) i ≡ combination ws i
-combination-take zero ws i l h = let e : i ≡ 0 = omega arith in rw e (at-zero (combination-linear []) ∙ sym (at-zero (combination-linear ws)))
-combination-take (suc n) [] i l h = refl
-combination-take (suc n) (w ∷ ws) i l h =
-    combination-cons w (take n ws) i (omega (arith, length-take n ws))
-    ∙ ap (add _) (combination-take n ws (i / 3) (omega arith) (omega (arith, pow-suc 3 n)))
-    ∙ sym (combination-cons w ws i (omega arith))
 
 -- every combination of up to six symbols is by the digits of a number
 pub combination-any : (a : ℕ → ℕ) (ws : List ℕ) → length ws ≤ 6 → (i : ℕ) × (i < 3 ^ length ws) × (combination ws i ≡ combine a ws)

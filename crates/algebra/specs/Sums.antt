@@ -60,6 +60,12 @@ pub ruleset sums = (add-assoc, add-comm, add-left, rest-rest, add-zero, zero-plu
 pub minus-self : (a : ℕ) → minus a a ≡ 0
 minus-self a = simp sums
 
+pub minus-zero : (a : ℕ) → minus a 0 ≡ a % 729
+minus-zero a = simp sums
+
+pub minus-rest : (a b : ℕ) → minus a (b % 729) ≡ minus a b
+minus-rest a b = simp sums
+
 pub minus-add : (a b : ℕ) → add (minus a b) b ≡ a % 729
 minus-add a b = simp sums
 

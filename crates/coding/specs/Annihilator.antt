@@ -118,6 +118,12 @@ none-everywhere e z i h =
     ∙ ap (λ (f : ℕ → ℕ). spectrum (images f) i) (fun-ext z)
     ∙ spectrum-images [] (lit≤ tt) i h
 
+-- A POLYNOMIAL'S VALUES lie in the span of as many symbols as their rank
+pub value-spanned : (e : ℕ → ℕ) (y : ℕ) → Span (rank-echelon (images (ev (table 6 e))) .by) (ev (table 6 e) y)
+unfolding combination
+value-spanned e y =
+    rw (expand (ev-linear (table 6 e)) y) (span-trans (rank-echelon (images (ev (table 6 e))) .spans) (span-combine (digit y) (images (ev (table 6 e)))))
+
 -- THE SIX EQUATIONS
 pub record Annihilated (e : ℕ → ℕ) : Type 0 where
   pub L1 : ℕ
@@ -126,18 +132,15 @@ pub record Annihilated (e : ℕ → ℕ) : Type 0 where
   pub equation : (i : ℕ) → i < 6 → left-side L1 L0 e i ≡ 0
 
 pub annihilated : (e : ℕ → ℕ) → rank (images (ev (table 6 e))) ≤ 2 → Annihilated e
-unfolding combination
 annihilated e r =
     let t = rank-echelon (images (ev (table 6 e))) in
     let s = steps (t .by) (omega (arith, t .count)) (t .free) in
-    let value : (y : ℕ) → Span (t .by) (ev (table 6 e) y) = λ y.
-    rw (expand (ev-linear (table 6 e)) y) (span-trans (t .spans) (span-combine (digit y) (images (ev (table 6 e))))) in
     record {
       L1 = minus 0 (add (cube (s .A)) (s .B));
       L0 = times (s .A) (s .B);
       unit = times-not-zero (s .A) (s .B) (s .A-unit) (s .B-unit);
       equation = λ i h. sym (add-whole _ _) ∙ none-everywhere _
-          (λ y. sym (annihilated-ev _ _ e y) ∙ sym (factored (s .A) (s .B) (ev (table 6 e) y)) ∙ s .none _ (value y)) i h;
+          (λ y. sym (annihilated-ev _ _ e y) ∙ sym (factored (s .A) (s .B) (ev (table 6 e) y)) ∙ s .none _ (value-spanned e y)) i h;
     }
 
 -- they hold of the error of a card, if a message near it was meant

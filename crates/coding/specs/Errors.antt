@@ -9,7 +9,7 @@ use native.Mathlib.Omega.{arith}
 use lib.ListN.{List·getD-eq-default}
 use Rattle.algebra.specs.Field.{minus}
 use Rattle.algebra.specs.Lists.{table, length-table, at-table}
-use Rattle.algebra.specs.Sums.{sums}
+use Rattle.algebra.specs.Sums.{minus-zero}
 use Rattle.algebra.specs.Linear.{images}
 use Rattle.algebra.specs.Products.{ring}
 use Rattle.algebra.specs.Polynomials.{ev}
@@ -28,9 +28,6 @@ errors k c m i = minus (spectrum c i) (at (coefficients k m) i)
 ev-difference : (r f : ℕ → ℕ) (y : ℕ) → ev (table 6 (λ i. minus (r i) (f i))) y ≡ minus (ev (table 6 r) y) (ev (table 6 f) y)
 unfolding ev table
 ev-difference r f y = simp ring
-
-less-zero : (x : ℕ) → minus x 0 ≡ x % 729
-less-zero x = simp sums
 
 taken-back : (r f : ℕ) → minus r (minus r f) ≡ f % 729
 taken-back r f = simp ring
@@ -59,7 +56,7 @@ module _ (k : ℕ) (p : 1 ≤ k) (q : k ≤ 5) (c : List ℕ) (card : is-card c 
   unfolding errors at
   errors-beyond i h =
       ap (minus (spectrum c i)) (List·getD-eq-default (coefficients k m) 0 {n = i} (omega (arith, length-coefficients k p m)))
-      ∙ less-zero (spectrum c i)
+      ∙ minus-zero (spectrum c i)
       ∙ spectrum-whole c i
 
   -- and the card's less them are the message's

@@ -4,14 +4,14 @@ use mathlib.Core.Path.{_≡_, refl, sym, ap, _∙_}
 use mathlib.Core.Bool.{true}
 use mathlib.Core.List.{List, [], _∷_}
 use mathlib.Core.Option.{none, some}
-use Prim.Native.Nat.{ℕ, zero, suc, _+_, _*_, _%_, _≤_, _<_}
+use Prim.Native.Nat.{ℕ, zero, suc, _+_, _*_, _≤_, _<_}
 use native.Mathlib.Nat.{mod-eq-of-lt}
 use native.Mathlib.Omega.{arith}
 use lib.ListN.{length, replicate}
-use Rattle.algebra.specs.Field.{minus, power}
+use Rattle.algebra.specs.Field.{power}
 use Rattle.algebra.specs.Lists.{cons, All}
 use Rattle.algebra.specs.Tests.{any-above, passed, one-to-five}
-use Rattle.algebra.specs.Sums.{sums}
+use Rattle.algebra.specs.Sums.{minus-zero}
 use Rattle.algebra.specs.Linear.{computing}
 use Rattle.rank.specs.Definitions.{at, is-card, rank, difference, apart}
 use Rattle.rank.specs.Distance.{apart-sym, apart-triangle}
@@ -42,10 +42,7 @@ unfolding difference
 less-zeros zero [] e h = refl
 less-zeros zero (x ∷ c) e h = absurd (omega arith)
 less-zeros (suc n) [] e h = absurd (omega arith)
-less-zeros (suc n) (x ∷ c) e h = cons (less-zero x ∙ mod-eq-of-lt (h .0)) (less-zeros n c (omega arith) (h .1))
-  where
-    less-zero : (x : ℕ) → minus x 0 ≡ x % 729
-    less-zero x = simp sums
+less-zeros (suc n) (x ∷ c) e h = cons (minus-zero x ∙ mod-eq-of-lt (h .0)) (less-zeros n c (omega arith) (h .1))
 
 from-zero : (c : List ℕ) → is-card c ≡ true → apart c zero-word ≡ rank c
 unfolding apart is-card zero-word

@@ -13,20 +13,19 @@ use lib.ListN.{length}
 use Rattle.algebra.specs.Field.{add, minus, times, cube, risen}
 use Rattle.algebra.specs.Lists.{table, table-same, table-at}
 use Rattle.algebra.specs.Tests.{below-six}
-use Rattle.algebra.specs.Digits.{digit}
-use Rattle.algebra.specs.Sums.{Zero, sums, add-whole, minus-none}
-use Rattle.algebra.specs.Combinations.{Span, span-combine, span-trans, span-zero, Independent}
-use Rattle.algebra.specs.Linear.{at-zero, at-rest, combination, expand, images}
+use Rattle.algebra.specs.Sums.{Zero, add-whole, minus-rest, minus-none}
+use Rattle.algebra.specs.Combinations.{Span, span-zero, Independent}
+use Rattle.algebra.specs.Linear.{at-zero, at-rest, images}
 use Rattle.algebra.specs.Products.{ring, products, cube-linear, cube-times, times-comm, times-zero, zero-times, times-whole}
 use Rattle.algebra.specs.Inverses.{inverse, divide, no-divisors, times-not-zero, risen-not-zero}
-use Rattle.algebra.specs.Polynomials.{ev, ev-linear, lower, lower-linear, lower-self}
+use Rattle.algebra.specs.Polynomials.{ev, lower, lower-linear, lower-self}
 use Rattle.rank.specs.Definitions.{at, is-card, rank}
 use Rattle.rank.specs.Echelon.{rank-echelon}
 use Rattle.coding.specs.Code.{Near}
 use Rattle.coding.specs.Coefficients.{coefficients, length-coefficients, read, read-coefficients}
 use Rattle.coding.specs.Spectrum.{spectrum}
 use Rattle.coding.specs.Errors.{errors, errors-beyond, given-back}
-use Rattle.coding.specs.Annihilator.{Annihilated, on-span, cubed, none-everywhere, near-annihilated}
+use Rattle.coding.specs.Annihilator.{Annihilated, value-spanned, on-span, cubed, none-everywhere, near-annihilated}
 use Rattle.coding.specs.Algebraic.{det, key, key-times, zero-factor, cube-minus}
 
 -- THE NEXT COEFFICIENT of an error of rank 1 after x, if v comes after u
@@ -81,16 +80,13 @@ same-cube : (x a b : ℕ) → Zero (minus (cube x) (times a b)) → cube x ≡ t
 same-cube x a b z = sym (mod-eq-of-lt (cube-linear .below x)) ∙ minus-none (cube x) (times a b) z ∙ times-whole a b
 
 pub ratio : (e : ℕ → ℕ) → rank (images (ev (table 6 e))) ≤ 1 → Ratio e
-unfolding combination
 ratio e r =
     let t = rank-echelon (images (ev (table 6 e))) in
     let s = step (t .by) (omega (arith, t .count)) (t .free) in
-    let value : (y : ℕ) → Span (t .by) (ev (table 6 e) y) = λ y.
-    rw (expand (ev-linear (table 6 e)) y) (span-trans (t .spans) (span-combine (digit y) (images (ev (table 6 e))))) in
     record {
       P = s .P;
       unit = s .unit;
-      equation = λ i h. same-cube _ _ _ (none-everywhere _ (λ y. sym (lowered-ev (s .P) e y) ∙ s .none _ (value y)) i h);
+      equation = λ i h. same-cube _ _ _ (none-everywhere _ (λ y. sym (lowered-ev (s .P) e y) ∙ s .none _ (value-spanned e y)) i h);
     }
 
 -- AND WHERE THE KEY IS 0: if E5 is 0, so are all, as an equation with two zeros has a third
@@ -228,9 +224,6 @@ module _ (e : ℕ → ℕ) (R : Ratio e) where
   chained i h = elim (ℕ-discrete (e 5 % 729) 0) [ yes z ↦ chained-none z i h | no n ↦ chained-some n i h ]
 
 -- A MESSAGE NEAR THE CARD is the one computed
-less-rest : (a b : ℕ) → minus a (b % 729) ≡ minus a b
-less-rest a b = simp sums
-
 module _ (k : ℕ) (p : 1 ≤ k) (q : k ≤ 4) (c : List ℕ) (card : is-card c ≡ true) (m : List ℕ) (near : Near k c m) (R : Ratio (errors k c m)) where
   five : k ≤ 5
   five = omega arith
@@ -238,7 +231,7 @@ module _ (k : ℕ) (p : 1 ≤ k) (q : k ≤ 4) (c : List ℕ) (card : is-card c 
   pub near-entry : (u : ℕ) → u ≡ errors k c m 4 → (i : ℕ) → i < 5 → minus (spectrum c i) (chain u (spectrum c 5) i) ≡ at (coefficients k m) i
   near-entry u eu i h =
       rw (eu, ← errors-beyond k p five c card m 5 (omega arith)) (
-      ap (minus (spectrum c i)) (chained (errors k c m) R i h) ∙ less-rest (spectrum c i) (errors k c m i) ∙ given-back k p five c card m i)
+      ap (minus (spectrum c i)) (chained (errors k c m) R i h) ∙ minus-rest (spectrum c i) (errors k c m i) ∙ given-back k p five c card m i)
 
   pub near-single : (u : ℕ) → u ≡ errors k c m 4 → single k (spectrum c) u ≡ m
   unfolding single at

@@ -44,13 +44,13 @@ pub double-is : (r : ℕ → ℕ) (a : Annihilator) → Annihilates r a → (f�
 unfolding double zeroth first solved
 double-is r a s f₀ e₀ f₁ m₀ m₁ h₀ e h₁ h₂ h₃ = rw (h₂, h₃, h₁, e, h₀, s .inverse, s .mean, s .minor)
 
-pub parts-message : (a b c : ℕ) → a ≡ low c → b ≡ high c → is-message 1 (a ∷ b ∷ []) ≡ true
+pub parts-message : (a b x y : ℕ) → a ≡ low x → b ≡ high y → is-message 1 (a ∷ b ∷ []) ≡ true
 unfolding is-message
-parts-message a b c p q = rw (p, q) (passes 2 26 (low c ∷ high c ∷ []) refl (low-below c, (high-below c, tt)))
+parts-message a b x y p q = rw (p, q) (passes 2 26 (low x ∷ high y ∷ []) refl (low-below x, (high-below y, tt)))
 
 pub double-message : (r : ℕ → ℕ) → is-message 1 (double r) ≡ true
-unfolding is-message double
-double-message r = passes 2 26 (double r) refl (low-below _, (high-below _, tt))
+unfolding double
+double-message r = parts-message _ _ (zeroth r) (first r) refl refl
 
 module _ (c : List ℕ) (card : is-card c ≡ true) (r : List ℕ) (e : r ≡ table 6 (spectrum c)) (k : ℕ) (ek : k ≡ lead (at r)) where
   lead-is : lead (at r) ≡ lead (spectrum c)

@@ -1,6 +1,6 @@
 -- The rank that elimination counts: it leaves as many independent symbols, with the span of the card's symbols. So the rank is the least
 -- number of symbols that span them: a card of rank t lies in the span of t independent symbols, and of no fewer. Assumes nothing.
--- Main: rank-echelon, rank-least, rank-is-least, least-is-rank, rank-zero, zero-rank, rank-at-most, rank-take, at-most-six.
+-- Main: rank-echelon, rank-least, rank-is-least, least-is-rank, rank-zero, zero-rank, rank-at-most, at-most-six.
 use mathlib.Core.Path.{_≡_, refl, ap, _∙_}
 use mathlib.Core.Logic.{_≢_}
 use mathlib.Core.Bool.{Bool, true, false, cond}
@@ -9,10 +9,10 @@ use mathlib.Core.Option.{Option, none, some}
 use Prim.Native.Nat.{ℕ, zero, suc, _+_, _≤_}
 use native.Mathlib.Omega.{arith}
 use lib.Dec.{eqb}
-use lib.ListN.{length, take}
+use lib.ListN.{length}
 use borrow.Author.Tests.{eqb-true, eqb-false}
 use Rattle.algebra.specs.Field.{digits}
-use Rattle.algebra.specs.Lists.{All, all, all-map, all-zip, all-take, over, under}
+use Rattle.algebra.specs.Lists.{All, all, all-map, all-zip, over, under}
 use Rattle.algebra.specs.Digits.{digit}
 use Rattle.algebra.specs.Sums.{Zero}
 use Rattle.algebra.specs.Combinations.{combine, Span, span-zero, span-self, span-trans, Independent, outside}
@@ -126,13 +126,6 @@ rank-zero c z = let t = rank-echelon c in go (t .by) (t .count ∙ z) (t .spans)
 
 pub zero-rank : (c : List ℕ) → All Zero c → rank c ≡ 0
 zero-rank c z = omega (arith, rank-least c [] (all-map (λ v. span-zero) c z))
-
--- fewer symbols
-pub rank-take : (n : ℕ) (f : ℕ → ℕ) (ps : List ℕ) → rank (map f (take n ps)) ≤ rank (map f ps)
-rank-take n f ps =
-    let t = rank-echelon (map f ps) in
-    let within = over (Span (t .by)) f (take n ps) (all-take _ n ps (under (Span (t .by)) f ps (t .spans))) in
-    omega (arith, t .count, rank-least (map f (take n ps)) (t .by) within)
 
 -- AT MOST SIX
 basis-spans : (c : List ℕ) → All (Span basis) c

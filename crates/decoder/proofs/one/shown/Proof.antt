@@ -24,7 +24,7 @@ returns-2 c =
     let h = w .before in
     let s = h .before .before in
     let eq = c .before .same .ensures (not-false _ (c .if1 .left)) in (
-      λ t. sym (word-decode 1 (lit≤ tt) (lit≤ tt) (s .args .t1) (s .pre) _ (parts-message _ _ _ (h .before .low .ensures) (h .high .ensures)) (sym (w .word-of .ensures) ∙ eq)),
+      λ t. sym (word-decode 1 (lit≤ tt) (lit≤ tt) (s .args .t1) (s .pre) _ (parts-message _ _ _ _ (h .before .low .ensures) (h .high .ensures)) (sym (w .word-of .ensures) ∙ eq)),
       record { word-is = λ t. w .word-of .ensures; distance-is = λ t. sym (ap (λ (v : List ℕ). apart v (s .args .t1)) eq ∙ apart-self (s .args .t1)) },
     )
 
