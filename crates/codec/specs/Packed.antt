@@ -1,13 +1,18 @@
--- Packed digits as the code takes them: each digit is a quotient less three times the next one. Assumes nothing.
--- Main: digits-are, digits-small.
-use mathlib.Core.Path.{_≡_, refl, ap}
+-- Packed digits as the code takes them: each digit is a quotient less three times the next one. And the numbers of a message. Assumes nothing.
+-- Main: digits-are, digits-small, three-digits-are, three-small, three-digits-small, number-below.
+use mathlib.Core.Path.{_≡_, refl, sym, ap}
+use mathlib.Core.Bool.{true}
 use mathlib.Core.List.{List, [], _∷_}
-use Prim.Native.Nat.{ℕ, _*_, _-_, _/_, _%_, _≤_}
+use Prim.Native.Nat.{ℕ, zero, suc, _*_, _-_, _/_, _%_, _≤_, _<_}
 use native.Mathlib.Omega.{arith}
-use lib.ListN.{getD}
+use lib.ListN.{getD, take}
+use lib.Seq.{getD-take}
 use Rattle.algebra.specs.Field.{digits-of, digits}
-use Rattle.algebra.specs.Lists.{cons}
+use Rattle.algebra.specs.Lists.{cons, all-at}
+use Rattle.algebra.specs.Tests.{passed}
 use Rattle.algebra.specs.Digits.{digit-below}
+use Rattle.coding.specs.Code.{is-message}
+use Rattle.coding.specs.Packed.{three-digits}
 
 less : (a : ℕ) → a - 3 * (a / 3) ≡ a % 3
 less a = omega arith
@@ -20,3 +25,25 @@ digits-are a = cons (less a) (cons (less _) (cons (less _) (cons (less _) (cons 
 
 pub digits-small : (d : List ℕ) (x : ℕ) → d ≡ digits x → (t : ℕ) → getD d t 0 ≤ 2
 digits-small d x e t = omega (arith, digit-below x t, ap (λ (l : List ℕ). getD l t 0) e)
+
+-- the three of a number below 27
+pub three-digits-are : (a : ℕ) → (a - 3 * (a / 3)) ∷ (a / 3 - 3 * (a / 3 / 3)) ∷ (a / 3 / 3) ∷ [] ≡ three-digits a
+unfolding three-digits
+three-digits-are a = cons (less a) (cons (less _) (cons (omega arith) refl))
+
+pub three-small : (x y z : ℕ) → x ≤ 2 → y ≤ 2 → z ≤ 2 → (t : ℕ) → getD (x ∷ y ∷ z ∷ []) t 0 ≤ 2
+three-small x y z p q r zero = p
+three-small x y z p q r (suc zero) = q
+three-small x y z p q r (suc (suc zero)) = r
+three-small x y z p q r (suc (suc (suc t))) = omega arith
+
+pub three-digits-small : (d : List ℕ) (x : ℕ) → x < 27 → d ≡ three-digits x → (t : ℕ) → getD d t 0 ≤ 2
+unfolding three-digits
+three-digits-small d x h e = rw e (three-small _ _ _ (omega arith) (omega arith) (omega arith))
+
+-- A NUMBER OF A MESSAGE is below 27
+pub number-below : (k : ℕ) (m : List ℕ) → is-message k (take (2 * k) m) ≡ true → (i : ℕ) → i < 2 * k → getD m i 0 < 27
+unfolding is-message
+number-below k m u i h =
+    let (l, b) = passed (2 * k) 26 (take (2 * k) m) u in
+    rw (getD-take (2 * k) m i 0 h) at (all-at (λ v. v < 27) 0 (take (2 * k) m) b i (omega (arith, l)))

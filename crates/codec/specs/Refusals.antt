@@ -9,7 +9,7 @@ use Prim.Native.Nat.{ℕ, _*_, _-_, _≤_}
 use native.Mathlib.Omega.{arith}
 use lib.Dec.{leb, eqb}
 use lib.ListN.{length}
-use borrow.Author.Tests.{leb-true, eqb-true, not-false}
+use borrow.Author.Tests.{leb-true, eqb-true, eq-eqb, not-false}
 use Rattle.algebra.specs.Tests.{any-above, both}
 use Rattle.refusal.specs.declared.Refusal.{Refusal}
 use Rattle.refusal.specs.declared.Refusal.the-variants.{Undecodable}
@@ -18,7 +18,7 @@ use Rattle.refusal.specs.declared.Outcome.the-variants as outcomes
 use Rattle.refusal.specs.declared.Answer.the-variants as answers
 use Rattle.refusal.specs.Answers.{number, number-not-zero, outcome, answer}
 use Rattle.rank.specs.Definitions.{is-card, apart}
-use Rattle.coding.specs.Code.{word, test-values}
+use Rattle.coding.specs.Code.{word, is-message, test-values}
 use Rattle.coding.specs.Decode.{decode}
 use Rattle.coding.specs.Mu.{mu}
 use Rattle.codec.specs.Answers.{k-bad, tests, unless, encode-refusal, Encoded, syndrome-refusal, Tested}
@@ -40,13 +40,16 @@ tests-passed false false false e = (refl, refl, refl)
 both-equal : (a b : ℕ) (t : Bool) → not (eqb a b && t) ≡ false → (a ≡ b) × (t ≡ true)
 both-equal a b t e = let s = both (eqb a b) t (not-false (eqb a b && t) e) in (eqb-true a b (s .0), s .1)
 
-pub encode-passed : (k : ℕ) (m : List ℕ) (w : ℕ) → encode-refusal k m w ≡ 0 → (1 ≤ k) × (k ≤ 5) × (length m ≡ 2 * k) × (w ≡ 6)
-unfolding encode-refusal
+fits : (n l most : ℕ) (v : List ℕ) → n ≡ l → any-above most v ≡ false → (eqb n l && not (any-above most v)) ≡ true
+fits n l most v p r = rw (eq-eqb n l p, r)
+
+pub encode-passed : (k : ℕ) (m : List ℕ) (w : ℕ) → encode-refusal k m w ≡ 0 → (1 ≤ k) × (k ≤ 5) × (length m ≡ 2 * k) × (is-message k m ≡ true) × (w ≡ 6)
+unfolding encode-refusal is-message
 encode-passed k m w e =
     let (d, l, r) = tests-passed (k-bad k) _ (any-above 26 m) e in
     let (f, g) = k-good k d in
     let (p, q) = both-equal (length m) (2 * k) (eqb w 6) l in
-    (f, g, p, eqb-true w 6 q)
+    (f, g, p, fits (length m) (2 * k) 26 m p r, eqb-true w 6 q)
 
 pub syndrome-passed : (k : ℕ) (c : List ℕ) (v : ℕ) → syndrome-refusal k c v ≡ 0 → (1 ≤ k) × (k ≤ 5) × (length c ≡ 6) × (v ≡ 12 - 2 * k)
 unfolding syndrome-refusal
@@ -64,10 +67,7 @@ decode-passed k c w m e =
     let (f, g) = k-good k d in
     let (p, q) = both-equal (length c) 6 (eqb w 6 && eqb m (2 * k)) l in
     let (s, t) = both (eqb w 6) (eqb m (2 * k)) q in
-    (f, g, p, card (length c) p r, eqb-true w 6 s, eqb-true m (2 * k) t)
-  where
-    card : (n : ℕ) → n ≡ 6 → any-above 728 c ≡ false → (eqb n 6 && not (any-above 728 c)) ≡ true
-    card n p r = rw (p, r)
+    (f, g, p, fits (length c) 6 728 c p r, eqb-true w 6 s, eqb-true m (2 * k) t)
 
 -- THE LISTS afterwards
 unless-refused : (n : ℕ) (new old : List ℕ) → eqb n 0 ≡ false → old ≡ unless n new old

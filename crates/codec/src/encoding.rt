@@ -1,17 +1,19 @@
 // Encoding (document 01: Press): the word of a message is the values of its polynomial at 1, z, .. z^5, a coefficient at a time. It is linear
 // in the digits of the message.
 ghost use mathlib.Core.Path.{_≡_};
-ghost use Prim.Native.Nat.{ℕ, _+_, _*_, _≤_};
+ghost use mathlib.Core.Bool.{true};
+ghost use mathlib.Core.List.{[], _∷_};
+ghost use Prim.Native.Nat.{ℕ, _+_, _*_, _%_, _≤_, _<_};
 ghost use lib.ListN.{getD, take};
 ghost use Rattle.algebra.specs.Field.{digits};
-ghost use Rattle.coding.specs.Code.{word};
+ghost use Rattle.coding.specs.Code.{word, is-message};
 ghost use Rattle.coding.specs.Packed.{gather, rows};
-ghost use Rattle.coding.specs.Transforms.{«word-map», «number-at», numbers};
+ghost use Rattle.coding.specs.Transforms.{«word-map», «number-at»};
 ghost use Rattle.codec.specs.Answers.{Encoded};
 use crate::lists::fill;
 use crate::lists::loaded;
-use crate::packed::digits;
-use crate::packed::gathered;
+use crate::packed::gathered_high;
+use crate::packed::gathered_low;
 use crate::packed::settled;
 use crate::refusals::encode_tests;
 use refusal::Outcome;
@@ -231,105 +233,96 @@ const COEFFICIENT_5: [[u64; 4]; 6] = [
     ],
 ];
 
-// Coefficient s for k as one number, of the digits of the small numbers c and d at its places. The last has one number, which takes d's place.
-fn number_at(s: usize, k: usize, c: u16, d: u16) -> u16
-    ensures { λ r. ⌜ r ≡ number-at s k c d ⌝ }
+// The two small numbers of a coefficient.
+pub struct Pair {
+    pub low: u16,
+    pub high: u16,
+}
+
+// Those of coefficient s for k, from the numbers c and d at its places. The last has its high number only, and none comes after it.
+fn pair_at(s: usize, k: usize, c: u16, d: u16) -> Pair
+    requires { ⌜ (s ≤ k → c < 27) × (s < k → d < 27) ⌝ }
+    ensures { λ p. ⌜ (p .low + 27 * p .high ≡ number-at s k c d) × (p .low < 27) × (p .high < 27) ⌝ }
 {
     if s < k {
-        c % 27 + 27 * (d % 27)
+        Pair { low: c, high: d }
     } else if s == k {
-        27 * (c % 27)
+        Pair { low: 0, high: c }
     } else {
-        0
+        Pair { low: 0, high: 0 }
     }
 }
 
-fn numbers(k: usize, m: [u16; 10]) -> [u16; 6]
-    ensures { λ r. ⌜ r ≡ numbers k m ⌝ }
+// The first coefficient has its low number only.
+fn with_0(x: u16) -> [u64; 4]
+    requires { ⌜ x < 27 ⌝ }
+    ensures same { λ r. ⌜ r ≡ gather (0 ∷ 0 ∷ 0 ∷ 0 ∷ []) (digits (x % 27)) (rows (word-map 0)) ⌝ }
+    ensures bound { λ r. ⌜ ((w : ℕ) → getD r w 0 ≤ 900000000000000000) ⌝ }
 {
-    [
-        m[0] % 27,
-        number_at(1, k, m[1], m[2]),
-        number_at(2, k, m[3], m[4]),
-        number_at(3, k, m[5], m[6]),
-        number_at(4, k, m[7], m[8]),
-        number_at(5, k, m[9], 0),
-    ]
+    gathered_low([0u64; 4], x, COEFFICIENT_0)
 }
 
-fn with_0(a: [u64; 4], x: u16) -> [u64; 4]
-    requires { ⌜ ((w : ℕ) → getD a w 0 ≤ 9000000000000000000) ⌝ }
-    ensures same { λ r. ⌜ r ≡ gather a (digits x) (rows (word-map 0)) ⌝ }
+fn with_1(a: [u64; 4], k: usize, c: u16, d: u16) -> [u64; 4]
+    requires { ⌜ ((w : ℕ) → getD a w 0 ≤ 9000000000000000000) × (1 ≤ k → c < 27) × (1 < k → d < 27) ⌝ }
+    ensures same { λ r. ⌜ r ≡ gather a (digits (number-at 1 k c d)) (rows (word-map 1)) ⌝ }
     ensures bound { λ r. ⌜ ((w : ℕ) → getD r w 0 ≤ getD a w 0 + 1800000000000000000) ⌝ }
 {
-    gathered(a, digits(x), COEFFICIENT_0)
+    let p = pair_at(1, k, c, d);
+    let b = gathered_low(a, p.low, COEFFICIENT_1);
+    gathered_high(b, p.high, COEFFICIENT_1)
 }
 
-fn with_1(a: [u64; 4], x: u16) -> [u64; 4]
-    requires { ⌜ ((w : ℕ) → getD a w 0 ≤ 9000000000000000000) ⌝ }
-    ensures same { λ r. ⌜ r ≡ gather a (digits x) (rows (word-map 1)) ⌝ }
+fn with_2(a: [u64; 4], k: usize, c: u16, d: u16) -> [u64; 4]
+    requires { ⌜ ((w : ℕ) → getD a w 0 ≤ 9000000000000000000) × (2 ≤ k → c < 27) × (2 < k → d < 27) ⌝ }
+    ensures same { λ r. ⌜ r ≡ gather a (digits (number-at 2 k c d)) (rows (word-map 2)) ⌝ }
     ensures bound { λ r. ⌜ ((w : ℕ) → getD r w 0 ≤ getD a w 0 + 1800000000000000000) ⌝ }
 {
-    gathered(a, digits(x), COEFFICIENT_1)
+    let p = pair_at(2, k, c, d);
+    let b = gathered_low(a, p.low, COEFFICIENT_2);
+    gathered_high(b, p.high, COEFFICIENT_2)
 }
 
-// A coefficient 0 costs nothing.
-fn with_2(a: [u64; 4], x: u16) -> [u64; 4]
-    requires { ⌜ ((w : ℕ) → getD a w 0 ≤ 9000000000000000000) ⌝ }
-    ensures same { λ r. ⌜ r ≡ gather a (digits x) (rows (word-map 2)) ⌝ }
+fn with_3(a: [u64; 4], k: usize, c: u16, d: u16) -> [u64; 4]
+    requires { ⌜ ((w : ℕ) → getD a w 0 ≤ 9000000000000000000) × (3 ≤ k → c < 27) × (3 < k → d < 27) ⌝ }
+    ensures same { λ r. ⌜ r ≡ gather a (digits (number-at 3 k c d)) (rows (word-map 3)) ⌝ }
     ensures bound { λ r. ⌜ ((w : ℕ) → getD r w 0 ≤ getD a w 0 + 1800000000000000000) ⌝ }
 {
-    if x == 0 {
-        return a;
-    }
-    gathered(a, digits(x), COEFFICIENT_2)
+    let p = pair_at(3, k, c, d);
+    let b = gathered_low(a, p.low, COEFFICIENT_3);
+    gathered_high(b, p.high, COEFFICIENT_3)
 }
 
-fn with_3(a: [u64; 4], x: u16) -> [u64; 4]
-    requires { ⌜ ((w : ℕ) → getD a w 0 ≤ 9000000000000000000) ⌝ }
-    ensures same { λ r. ⌜ r ≡ gather a (digits x) (rows (word-map 3)) ⌝ }
+fn with_4(a: [u64; 4], k: usize, c: u16, d: u16) -> [u64; 4]
+    requires { ⌜ ((w : ℕ) → getD a w 0 ≤ 9000000000000000000) × (4 ≤ k → c < 27) × (4 < k → d < 27) ⌝ }
+    ensures same { λ r. ⌜ r ≡ gather a (digits (number-at 4 k c d)) (rows (word-map 4)) ⌝ }
     ensures bound { λ r. ⌜ ((w : ℕ) → getD r w 0 ≤ getD a w 0 + 1800000000000000000) ⌝ }
 {
-    if x == 0 {
-        return a;
-    }
-    gathered(a, digits(x), COEFFICIENT_3)
+    let p = pair_at(4, k, c, d);
+    let b = gathered_low(a, p.low, COEFFICIENT_4);
+    gathered_high(b, p.high, COEFFICIENT_4)
 }
 
-fn with_4(a: [u64; 4], x: u16) -> [u64; 4]
-    requires { ⌜ ((w : ℕ) → getD a w 0 ≤ 9000000000000000000) ⌝ }
-    ensures same { λ r. ⌜ r ≡ gather a (digits x) (rows (word-map 4)) ⌝ }
+fn with_5(a: [u64; 4], k: usize, c: u16, d: u16) -> [u64; 4]
+    requires { ⌜ ((w : ℕ) → getD a w 0 ≤ 9000000000000000000) × (5 ≤ k → c < 27) × (5 < k → d < 27) ⌝ }
+    ensures same { λ r. ⌜ r ≡ gather a (digits (number-at 5 k c d)) (rows (word-map 5)) ⌝ }
     ensures bound { λ r. ⌜ ((w : ℕ) → getD r w 0 ≤ getD a w 0 + 1800000000000000000) ⌝ }
 {
-    if x == 0 {
-        return a;
-    }
-    gathered(a, digits(x), COEFFICIENT_4)
-}
-
-fn with_5(a: [u64; 4], x: u16) -> [u64; 4]
-    requires { ⌜ ((w : ℕ) → getD a w 0 ≤ 9000000000000000000) ⌝ }
-    ensures same { λ r. ⌜ r ≡ gather a (digits x) (rows (word-map 5)) ⌝ }
-    ensures bound { λ r. ⌜ ((w : ℕ) → getD r w 0 ≤ getD a w 0 + 1800000000000000000) ⌝ }
-{
-    if x == 0 {
-        return a;
-    }
-    gathered(a, digits(x), COEFFICIENT_5)
+    let p = pair_at(5, k, c, d);
+    let b = gathered_low(a, p.low, COEFFICIENT_5);
+    gathered_high(b, p.high, COEFFICIENT_5)
 }
 
 // The word of the message that the first 2k numbers of m are.
 pub fn word_of(k: usize, m: [u16; 10]) -> [u16; 6]
-    requires { ⌜ (1 ≤ k) × (k ≤ 5) ⌝ }
+    requires { ⌜ (1 ≤ k) × (k ≤ 5) × (is-message k (take (2 * k) m) ≡ true) ⌝ }
     ensures { λ r. ⌜ r ≡ word k (take (2 * k) m) ⌝ }
 {
-    let x = numbers(k, m);
-    let s0 = with_0([0u64; 4], x[0]);
-    let s1 = with_1(s0, x[1]);
-    let s2 = with_2(s1, x[2]);
-    let s3 = with_3(s2, x[3]);
-    let s4 = with_4(s3, x[4]);
-    let s5 = with_5(s4, x[5]);
+    let s0 = with_0(m[0]);
+    let s1 = with_1(s0, k, m[1], m[2]);
+    let s2 = with_2(s1, k, m[3], m[4]);
+    let s3 = with_3(s2, k, m[5], m[6]);
+    let s4 = with_4(s3, k, m[7], m[8]);
+    let s5 = with_5(s4, k, m[9], 0);
     settled(s5)
 }
 

@@ -2,10 +2,10 @@
 // rests of the counts by 3 are taken once, at the end. Rows are given as constants, so that products with them need no table. Assumes nothing.
 ghost use mathlib.Core.Path.{_≡_};
 ghost use mathlib.Core.Bool.{false};
-ghost use Prim.Native.Nat.{ℕ, _+_, _*_, _%_, _≤_};
+ghost use Prim.Native.Nat.{ℕ, _+_, _*_, _%_, _≤_, _<_};
 ghost use lib.ListN.{getD};
 ghost use Rattle.algebra.specs.Field.{digits};
-ghost use Rattle.coding.specs.Packed.{«rows-above», raise, gather, settle};
+ghost use Rattle.coding.specs.Packed.{«rows-above», raise, thrice, «three-digits», gather, settle};
 ghost use Rattle.coding.specs.Rests.{rest, halves};
 
 // The six digits of a number.
@@ -35,18 +35,60 @@ fn raised(a: [u64; 4], d: u64, r: [u64; 4]) -> [u64; 4]
     ]
 }
 
+// Three digits times their rows more.
+fn raised_thrice(a: [u64; 4], d: [u64; 3], q: [u64; 4], r: [u64; 4], s: [u64; 4]) -> [u64; 4]
+    requires counts { ⌜ ((w : ℕ) → getD a w 0 ≤ 10000000000000000000) × ((t : ℕ) → getD d t 0 ≤ 2) ⌝ }
+    requires rows { ⌜ ((w : ℕ) → getD q w 0 ≤ 150000000000000000) × ((w : ℕ) → getD r w 0 ≤ 150000000000000000) × ((w : ℕ) → getD s w 0 ≤ 150000000000000000) ⌝ }
+    ensures same { λ v. ⌜ v ≡ thrice a d q r s ⌝ }
+    ensures bound { λ v. ⌜ ((w : ℕ) → getD v w 0 ≤ getD a w 0 + 900000000000000000) ⌝ }
+{
+    let s0 = raised(a, d[0], q);
+    let s1 = raised(s0, d[1], r);
+    raised(s1, d[2], s)
+}
+
 // Six digits times their rows more. Five numbers came before.
 pub(crate) fn gathered(a: [u64; 4], d: [u64; 6], r: [[u64; 4]; 6]) -> [u64; 4]
     requires { ⌜ ((w : ℕ) → getD a w 0 ≤ 9000000000000000000) × ((t : ℕ) → getD d t 0 ≤ 2) × (rows-above 150000000000000000 r ≡ false) ⌝ }
     ensures same { λ s. ⌜ s ≡ gather a d r ⌝ }
     ensures bound { λ s. ⌜ ((w : ℕ) → getD s w 0 ≤ getD a w 0 + 1800000000000000000) ⌝ }
 {
-    let s0 = raised(a, d[0], r[0]);
-    let s1 = raised(s0, d[1], r[1]);
-    let s2 = raised(s1, d[2], r[2]);
-    let s3 = raised(s2, d[3], r[3]);
-    let s4 = raised(s3, d[4], r[4]);
-    raised(s4, d[5], r[5])
+    let s = raised_thrice(a, [d[0], d[1], d[2]], r[0], r[1], r[2]);
+    raised_thrice(s, [d[3], d[4], d[5]], r[3], r[4], r[5])
+}
+
+fn three_digits(x: u16) -> [u64; 3]
+    requires { ⌜ x < 27 ⌝ }
+    ensures { λ r. ⌜ r ≡ three-digits x ⌝ }
+{
+    let a = x as u64;
+    let b = a / 3;
+    let c = b / 3;
+    [a - 3 * b, b - 3 * c, c]
+}
+
+// The digits of a number below 27 times the first three rows more. Of 0 there is nothing to add.
+pub(crate) fn gathered_low(a: [u64; 4], x: u16, r: [[u64; 4]; 6]) -> [u64; 4]
+    requires { ⌜ ((w : ℕ) → getD a w 0 ≤ 9000000000000000000) × (x < 27) × (rows-above 150000000000000000 r ≡ false) ⌝ }
+    ensures same { λ s. ⌜ s ≡ gather a (digits x) r ⌝ }
+    ensures bound { λ s. ⌜ ((w : ℕ) → getD s w 0 ≤ getD a w 0 + 900000000000000000) ⌝ }
+{
+    if x == 0 {
+        return a;
+    }
+    raised_thrice(a, three_digits(x), r[0], r[1], r[2])
+}
+
+// The same of 27 times the number: the last three rows.
+pub(crate) fn gathered_high(a: [u64; 4], x: u16, r: [[u64; 4]; 6]) -> [u64; 4]
+    requires { ⌜ ((w : ℕ) → getD a w 0 ≤ 10000000000000000000) × (x < 27) × (rows-above 150000000000000000 r ≡ false) ⌝ }
+    ensures same { λ s. ⌜ s ≡ gather a (digits (27 * x)) r ⌝ }
+    ensures bound { λ s. ⌜ ((w : ℕ) → getD s w 0 ≤ getD a w 0 + 900000000000000000) ⌝ }
+{
+    if x == 0 {
+        return a;
+    }
+    raised_thrice(a, three_digits(x), r[3], r[4], r[5])
 }
 
 // 3, 7 and 15 at each of nine counts.

@@ -1,6 +1,6 @@
 -- Packed digits: nine counts to a number, in base 128, so that one product and one sum serve nine digits of a linear function's value. The rests
 -- by 3 of the counts are taken at the end only. Assumes nothing.
--- Main: held, raise, gather, gather-zero, rows, settle, most, after, mapped.
+-- Main: held, raise, thrice, gather, gather-zero, three-digits, gather-low, gather-high, gather-pair, rows, settle, most, after, mapped.
 use mathlib.Core.Path.{_≡_, refl, sym, ap, ap₂, _∙_, fun-ext}
 use mathlib.Core.Bool.{Bool, true, false, _||_, true≢false}
 use mathlib.Core.List.{List, [], _∷_, _++_, map}
@@ -11,7 +11,7 @@ use lib.Dec.{ltb}
 use lib.ListN.{length, getD}
 use borrow.Author.Tests.{ltb-false}
 use Rattle.algebra.specs.Field.{digits-of, number-of, digits, add, scale}
-use Rattle.algebra.specs.Lists.{table, table-same, table-at, at-table}
+use Rattle.algebra.specs.Lists.{cons, table, length-table, table-same, table-at, at-table}
 use Rattle.algebra.specs.Tests.{any-above, below-six}
 use Rattle.algebra.specs.Digits.{digit, digit-add, digit-scale, digit-zero, digit-below, add-below, number-digits}
 use Rattle.algebra.specs.Combinations.{combine}
@@ -73,6 +73,60 @@ unfolding gather digits digits-of
 gather-zero a rs h =
     let z : (r : List ℕ) → raise a 0 r ≡ a = λ r. raise-zero a r h in
     rw (z (getD rs 0 []), z (getD rs 1 []), z (getD rs 2 []), z (getD rs 3 []), z (getD rs 4 []), z (getD rs 5 []))
+
+-- THREE DIGITS times three rows more: the digits of a number below 27
+unfoldable pub thrice : (a ds q r s : List ℕ) → List ℕ
+thrice a ds q r s = raise (raise (raise a (getD ds 0 0) q) (getD ds 1 0) r) (getD ds 2 0) s
+
+unfoldable pub three-digits : ℕ → List ℕ
+three-digits x = x % 3 ∷ x / 3 % 3 ∷ x / 9 ∷ []
+
+length-raise : (a : List ℕ) (d : ℕ) (r : List ℕ) → length (raise a d r) ≡ 4
+unfolding raise
+length-raise a d r = length-table 4 _
+
+thrice-zero : (a q r s : List ℕ) → length a ≡ 4 → thrice a (0 ∷ 0 ∷ 0 ∷ []) q r s ≡ a
+unfolding thrice
+thrice-zero a q r s h = rw (raise-zero a q h, raise-zero a r h, raise-zero a s h)
+
+-- such a number alone, 27 times it, and a number of two
+digits-pair : (c d : ℕ) → c < 27 → d < 27 → digits (c + 27 * d) ≡ three-digits c ++ three-digits d
+unfolding digits digits-of three-digits
+digits-pair c d h k = cons (omega arith) (cons (omega arith) (cons (omega arith) (cons (omega arith) (cons (omega arith) (cons (omega arith) refl)))))
+
+digits-low : (x : ℕ) → x < 27 → digits x ≡ three-digits x ++ (0 ∷ 0 ∷ 0 ∷ [])
+unfolding three-digits
+digits-low x h = ap digits (omega arith) ∙ digits-pair x 0 h (omega arith)
+
+digits-high : (x : ℕ) → x < 27 → digits (27 * x) ≡ 0 ∷ 0 ∷ 0 ∷ three-digits x
+unfolding three-digits
+digits-high x h = ap digits (omega arith) ∙ digits-pair 0 x (omega arith) h
+
+pub gather-low : (a : List ℕ) (rs : List (List ℕ)) (x : ℕ) → x < 27 → thrice a (three-digits x) (getD rs 0 []) (getD rs 1 []) (getD rs 2 []) ≡ gather a (digits x) rs
+unfolding gather thrice three-digits
+gather-low a rs x h = sym (rw (digits-low x h) (thrice-zero _ (getD rs 3 []) (getD rs 4 []) (getD rs 5 []) (length-raise _ _ _)))
+
+pub gather-high : (a : List ℕ) (rs : List (List ℕ)) (x : ℕ) → length a ≡ 4 → x < 27
+    → thrice a (three-digits x) (getD rs 3 []) (getD rs 4 []) (getD rs 5 []) ≡ gather a (digits (27 * x)) rs
+unfolding gather thrice three-digits
+gather-high a rs x l h =
+    sym (rw (digits-high x h) (ap (λ (b : List ℕ). thrice b (three-digits x) (getD rs 3 []) (getD rs 4 []) (getD rs 5 [])) (thrice-zero a (getD rs 0 []) (getD rs 1 []) (getD rs 2 []) l)))
+
+length-gather : (a ds : List ℕ) (rs : List (List ℕ)) → length (gather a ds rs) ≡ 4
+unfolding gather
+length-gather a ds rs = length-raise _ _ _
+
+joined : (a : List ℕ) (rs : List (List ℕ)) (c d : ℕ) → c < 27 → d < 27
+    → thrice (thrice a (three-digits c) (getD rs 0 []) (getD rs 1 []) (getD rs 2 [])) (three-digits d) (getD rs 3 []) (getD rs 4 []) (getD rs 5 [])
+    ≡ gather a (digits (c + 27 * d)) rs
+unfolding gather thrice three-digits
+joined a rs c d h k = sym (rw (digits-pair c d h k))
+
+pub gather-pair : (a : List ℕ) (rs : List (List ℕ)) (c d : ℕ) → c < 27 → d < 27 → gather (gather a (digits c) rs) (digits (27 * d)) rs ≡ gather a (digits (c + 27 * d)) rs
+gather-pair a rs c d h k =
+    sym (gather-high (gather a (digits c) rs) rs d (length-gather a (digits c) rs) k)
+    ∙ ap (λ (b : List ℕ). thrice b (three-digits d) (getD rs 3 []) (getD rs 4 []) (getD rs 5 [])) (sym (gather-low a rs c h))
+    ∙ joined a rs c d h k
 
 -- the four numbers grow by no more than twice the row's
 pub raise-bound : (a : List ℕ) (d : ℕ) (r : List ℕ) (m : ℕ) → d ≤ 2 → ((w : ℕ) → getD r w 0 ≤ m) → (w : ℕ) → getD (raise a d r) w 0 ≤ getD a w 0 + 2 * m

@@ -21,21 +21,21 @@ loaded-requires : tie.Need-loaded-requires
 loaded-requires c κs =
     let t = c .before .before in
     let s = t .before .before .before in
-    let (p, q, l, w) = encode-passed (s .args .k) (now (s .args .message)) _ (no-refusal _ _ (t .encode-tests .ensures) (c .enum-told .given .1)) in
+    let (p, q, l, u, w) = encode-passed (s .args .k) (now (s .args .message)) _ (no-refusal _ _ (t .encode-tests .ensures) (c .enum-told .given .1)) in
     omega (arith, q, l)
 
 word-of-requires : tie.Need-word-of-requires
 word-of-requires c κs =
     let t = c .before .before .before in
     let s = t .before .before .before in
-    let (p, q, l, w) = encode-passed (s .args .k) (now (s .args .message)) _ (no-refusal _ _ (t .encode-tests .ensures) (c .before .enum-told .given .1)) in
-    (p, q)
+    let (p, q, l, u, w) = encode-passed (s .args .k) (now (s .args .message)) _ (no-refusal _ _ (t .encode-tests .ensures) (c .before .enum-told .given .1)) in
+    (p, q, rw (← l, c .loaded .ensures) u)
 
 fill-requires : tie.Need-fill-requires
 fill-requires c κs =
     let t = c .before .before .before .before .before .before in
     let s = t .before .before .before in
-    let (p, q, l, w) = encode-passed (s .args .k) (now (s .args .message)) _ (no-refusal _ _ (t .encode-tests .ensures) (c .before .before .before .before .enum-told .given .1)) in
+    let (p, q, l, u, w) = encode-passed (s .args .k) (now (s .args .message)) _ (no-refusal _ _ (t .encode-tests .ensures) (c .before .before .before .before .enum-told .given .1)) in
     omega (arith, w)
 
 returns-2 : tie.Need-returns-2
@@ -45,7 +45,7 @@ returns-2 c =
     let e = v .before .before in
     let t = e .before .before in
     let s = t .before .before .before in
-    let (p, q, l, w) = encode-passed (s .args .k) (now (s .args .message)) _ (no-refusal _ _ (t .encode-tests .ensures) (e .enum-told .given .1)) in
+    let (p, q, l, u, w) = encode-passed (s .args .k) (now (s .args .message)) _ (no-refusal _ _ (t .encode-tests .ensures) (e .enum-told .given .1)) in
     encoded-done (s .args .k) (now (s .args .message)) (now (s .args .word)) _ (t .encode-tests .ensures) (e .enum-told .given .1) _
     (f .fill .ensures ∙ ap (λ (n : ℕ). take n (v .word-of .result)) w ∙ take-all 6 _ (omega arith) ∙ v .word-of .ensures
     ∙ ap (word (s .args .k)) (ap (λ (n : ℕ). take n (v .before .loaded .result)) (sym l) ∙ v .before .loaded .ensures))

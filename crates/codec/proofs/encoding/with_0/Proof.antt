@@ -1,7 +1,8 @@
 -- `codec::encoding::with_0` meets its contract: the digits times their rows, which are computed, once. Assumes nothing.
-use mathlib.Core.Path.{refl, ap₂, _∙_}
-use borrow.Author.Needs.{needs}
-use Rattle.algebra.specs.Field.{power}
+use mathlib.Core.Path.{refl, ap, ap₂, _∙_}
+use native.Mathlib.Omega.{arith}
+use Rattle.field.specs.Sums.{zeros}
+use Rattle.algebra.specs.Field.{digits, power}
 use Rattle.algebra.specs.Lists.{table}
 use Rattle.algebra.specs.Tests.{any-above}
 use Rattle.algebra.specs.Linear.{computing}
@@ -9,22 +10,20 @@ use Rattle.algebra.specs.SmallField.{pair}
 use Rattle.coding.specs.Spectrum.{risen-z}
 use Rattle.coding.specs.Packed.{packed, held, flat, row, rows, rows-above, gather}
 use Rattle.coding.specs.Transforms.{coefficient-of, word-map}
-use Rattle.codec.specs.Packed.{digits-small}
 use Rattle.codec.proofs.encoding.with_0.Statement.{statement}
 use Rattle.codec.proofs.encoding.with_0.Tie as tie
 
-gathered-requires : tie.Need-gathered-requires
+gathered-low-requires : tie.Need-gathered-low-requires
 unfolding rows-above any-above
-gathered-requires c κs = (c .before .pre, digits-small _ _ (c .digits .ensures), refl)
+gathered-low-requires c κs = ((λ w. omega (arith, zeros 4 w)), c .pre, refl)
 
 returns : tie.Need-returns
 unfolding computing rows row flat held packed table word-map risen-z coefficient-of pair power
-returns c = (c .gathered .ensures .0 ∙ ap₂ (gather (c .before .before .args .a)) (c .before .digits .ensures) refl, c .gathered .ensures .1)
+returns c =
+    let s = c .before in (
+      c .gathered-low .ensures .0 ∙ ap₂ (gather _) (ap digits (omega (arith, s .pre))) refl,
+      λ w. omega (arith, c .gathered-low .ensures .1 w, zeros 4 w),
+    )
 
 pub with-0-spec : {M : Type 1} → statement M
-with-0-spec =
-    tie.close
-    (tie.spec
-    (λ c κs. search needs)
-    gathered-requires
-    returns)
+with-0-spec = tie.close (tie.spec gathered-low-requires returns)

@@ -14,6 +14,9 @@ use borrow.Author.Needs.{needs}
 use Rattle.decoder.proofs.one.shown.Statement.{statement}
 use Rattle.decoder.proofs.one.shown.Tie as tie
 
+word-of-requires : tie.Need-word-of-requires
+word-of-requires c κs = (lit≤ tt, lit≤ tt, parts-message _ _ _ _ (c .before .low .ensures) (c .high .ensures))
+
 returns : tie.Need-returns
 returns c = (λ t. absurd (true≢false (sym t ∙ c .nothing .ensures)), whole-none 1 _ _ (c .nothing .ensures))
 
@@ -35,7 +38,7 @@ shown-spec =
     (λ c. search needs)
     (λ c κs. search needs)
     (λ c κs. search needs)
-    (λ c κs. search needs)
+    word-of-requires
     (λ c κs. search needs)
     (λ c κs. search needs)
     returns
