@@ -13,6 +13,7 @@ use borrow.Author.Tests.{eq-eqb, ne-eqb}
 use Rattle.algebra.specs.Field.{add, minus, times, cube, small}
 use Rattle.algebra.specs.Lists.{table}
 use Rattle.algebra.specs.Tests.{passes}
+use Rattle.algebra.specs.Products.{ring}
 use Rattle.algebra.specs.Inverses.{inverse}
 use Rattle.algebra.specs.SmallField.{low, high, low-below, high-below}
 use Rattle.rank.specs.Definitions.{at, is-card}
@@ -70,23 +71,23 @@ module _ (c : List ℕ) (card : is-card c ≡ true) (r : List ℕ) (e : r ≡ ta
   unfolding decode-one
   one-double n m h = rw (h ∙ double-spectrum) (sym (rw (ne-eqb (lead (spectrum c)) 0 (λ z. n (ek ∙ lead-is ∙ z)))) ∙ one-is-decode c card)
 
--- k = 2: THE CONSTANTS of a spectrum
+-- k = 2: THE CONSTANTS of a spectrum, as if the message's first symbol was 0, and what it is multiplied by
 pub record Prepared (r : ℕ → ℕ) (s : Shared) : Type 0 where
   pub zeroth : s .zeroth ≡ r 0
   pub first : s .first ≡ r 1
-  pub det0 : s .det0 ≡ times (r 5) (cube (r 5))
+  pub det0 : s .det0 ≡ det r (r 0)
   pub det1 : s .det1 ≡ cube (r 4)
-  pub num0 : s .num0 ≡ times (cube (cube (r 4))) (r 5)
+  pub num0 : s .num0 ≡ numerator r (r 0)
   pub num1 : s .num1 ≡ cube (cube (r 3))
-  pub top0 : s .top0 ≡ times 684 (cube (cube (r 2)))
-  pub top1 : s .top1 ≡ times 684 (times (key r) (r 4))
-  pub top2 : s .top2 ≡ times 684 (cube (r 3))
+  pub over0 : s .over0 ≡ add (times (numerator r (r 0)) (times 684 (cube (r 3)))) (times 684 (times (key r) (r 4)))
+  pub over1 : s .over1 ≡ times (cube (cube (r 3))) (times 684 (cube (r 3)))
+  pub top : s .top ≡ times 684 (cube (cube (r 2)))
   pub ninth : s .ninth ≡ cube (cube (r 5))
   pub key : s .key ≡ key r
 
 -- they are those of a card, if the spectrum is
 pub prepared-of : (c r : List ℕ) (s : Shared) → r ≡ table 6 (spectrum c) → Prepared (at r) s → Prepared (spectrum c) s
-unfolding at table key
+unfolding at table key det numerator
 prepared-of c r s e p =
     let q : Prepared (at (table 6 (spectrum c))) s = rw e at p in
     record {
@@ -96,23 +97,48 @@ prepared-of c r s e p =
       det1 = q .det1;
       num0 = q .num0;
       num1 = q .num1;
-      top0 = q .top0;
-      top1 = q .top1;
-      top2 = q .top2;
+      over0 = q .over0;
+      over1 = q .over1;
+      top = q .top;
       ninth = q .ninth;
       key = q .key;
     }
 
--- WHAT THE CODE COMPUTES FROM THEM, for a first number
-module _ (r : ℕ → ℕ) (s : Shared) (p : Prepared r s) (a t x p₁ d p₂ n : ℕ) (et : t ≡ small a) (ex : x ≡ minus (s .zeroth) t)
-    (e₁ : p₁ ≡ times (s .det1) x) (ed : d ≡ minus p₁ (s .det0)) (e₂ : p₂ ≡ times (s .num1) x) (en : n ≡ minus (s .num0) p₂) where
-  pub ninth-is : (v : ℕ) → v ≡ add (s .top0) (times (inverse d) (add (times n (s .top2)) (s .top1))) → v ≡ ninth r (first-error r a)
-  unfolding ninth det numerator first-error
-  ninth-is v e = cc
+-- WHAT THE CODE COMPUTES FROM THEM, for a first symbol x
+module _ (r : ℕ → ℕ) (x : ℕ) where
+  det-less : minus (det r (r 0)) (times (cube (r 4)) x) ≡ det r (minus (r 0) x)
+  unfolding det
+  det-less = split (cube (r 4)) (times (r 5) (cube (r 5)))
+    where
+      split : (c q : ℕ) → minus (minus (times c (r 0)) q) (times c x) ≡ minus (times c (minus (r 0) x)) q
+      split c q = simp ring
 
-  pub middle-is : (f : ℕ) → f ≡ add (s .first) (times (inverse (s .key)) (add (times (s .ninth) d) (times n (cube x)))) → f ≡ middle r (first-error r a)
-  unfolding middle det numerator first-error
-  middle-is f e = cc
+  numerator-more : add (numerator r (r 0)) (times (cube (cube (r 3))) x) ≡ numerator r (minus (r 0) x)
+  unfolding numerator
+  numerator-more = split (times (cube (cube (r 4))) (r 5)) (cube (cube (r 3)))
+    where
+      split : (p c : ℕ) → add (minus p (times c (r 0))) (times c x) ≡ minus p (times c (minus (r 0) x))
+      split p c = simp ring
+
+  over-more : (t u : ℕ) → add (add (times (numerator r (r 0)) t) u) (times (times (cube (cube (r 3))) t) x) ≡ add (times (numerator r (minus (r 0) x)) t) u
+  over-more t u = split (numerator r (r 0)) (cube (cube (r 3))) ∙ ap (λ (n : ℕ). add (times n t) u) numerator-more
+    where
+      split : (n c : ℕ) → add (add (times n t) u) (times (times c t) x) ≡ add (times (add n (times c x)) t) u
+      split n c = simp ring
+
+module _ (r : ℕ → ℕ) (s : Shared) (p : Prepared r s) (a x q d : ℕ) (ex : x ≡ small a) (eq : q ≡ times (s .det1) x) (ed : d ≡ minus (s .det0) q) where
+  det-is : d ≡ det r (first-error r a)
+  unfolding first-error
+  det-is = rw (ed, eq, p .det0, p .det1, ← ex) (det-less r x)
+
+  pub ninth-is : (v : ℕ) → v ≡ add (s .top) (times (inverse d) (add (s .over0) (times (s .over1) x))) → v ≡ ninth r (first-error r a)
+  unfolding ninth first-error
+  ninth-is v e = rw (e, p .top, p .over0, p .over1, over-more r x _ _, det-is, ex)
+
+  pub middle-is : (f : ℕ) → f ≡ add (s .first) (times (inverse (s .key)) (add (times (s .ninth) d) (times (add (s .num0) (times (s .num1) x)) (cube (minus (s .zeroth) x)))))
+      → f ≡ middle r (first-error r a)
+  unfolding middle first-error
+  middle-is f e = rw (e, p .first, p .key, p .ninth, p .num0, p .num1, p .zeroth, numerator-more r x, det-is, ex)
 
 pub proposed-is : (r : ℕ → ℕ) (a v f m₁ m₂ m₃ : ℕ) → v ≡ ninth r (first-error r a) → f ≡ middle r (first-error r a)
     → m₁ ≡ low f → m₂ ≡ high f → m₃ ≡ low (cube v) → a ∷ m₁ ∷ m₂ ∷ m₃ ∷ [] ≡ proposed r a

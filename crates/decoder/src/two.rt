@@ -3,13 +3,13 @@
 ghost use mathlib.Core.Path.{_≡_};
 ghost use mathlib.Core.Bool.{true};
 ghost use Prim.Native.Nat.{_<_};
-ghost use Rattle.algebra.specs.Field.{add, times, cube};
+ghost use Rattle.algebra.specs.Field.{add, minus, times, cube};
 ghost use Rattle.algebra.specs.Lists.{table};
 ghost use Rattle.algebra.specs.Inverses.{inverse};
 ghost use Rattle.rank.specs.Definitions.{at, is-card};
 ghost use Rattle.field.specs.Tables.{Tables};
 ghost use Rattle.coding.specs.Spectrum.{spectrum};
-ghost use Rattle.coding.specs.Algebraic.{key};
+ghost use Rattle.coding.specs.Algebraic.{det, numerator, key};
 ghost use Rattle.coding.specs.Decode.{decode};
 ghost use Rattle.coding.specs.DecodeTwo.{attempt};
 ghost use Rattle.candidate.specs.Finding.{answer, Whole};
@@ -22,7 +22,8 @@ use candidate::nothing;
 // 1 / gamma^9
 const GAMMA_BACK: u16 = 684;
 
-// What all proposals share: constants of the determinant, of the numerator, of the last symbol's ninth power and of the symbol in the middle.
+// What all proposals share. The determinant, the numerator and what stands over the determinant in the last symbol's ninth power each are a constant
+// and a multiple of the message's first symbol.
 pub struct Shared {
     pub zeroth: u16,
     pub first: u16,
@@ -30,9 +31,9 @@ pub struct Shared {
     pub det1: u16,
     pub num0: u16,
     pub num1: u16,
-    pub top0: u16,
-    pub top1: u16,
-    pub top2: u16,
+    pub over0: u16,
+    pub over1: u16,
+    pub top: u16,
     pub ninth: u16,
     pub key: u16,
 }
@@ -51,48 +52,103 @@ fn key_of(r: [u16; 6], logs: &[u16; 729], powers: &[u16; 728]) -> u16
     )
 }
 
+// The constants of the determinant, of the numerator and of what stands over the determinant, and the multiple in the last; then what is added.
+fn det_of(r: [u16; 6], logs: &[u16; 729], powers: &[u16; 728]) -> u16
+    requires { ⌜ Tables (now logs) (now powers) ⌝ }
+    ensures { λ v. ⌜ v ≡ det (at r) (at r 0) ⌝ }
+{
+    let c4 = field::cube_with(r[4], logs, powers);
+    let c5 = field::cube_with(r[5], logs, powers);
+    field::difference(
+        field::product_with(c4, r[0], logs, powers),
+        field::product_with(r[5], c5, logs, powers),
+    )
+}
+
+fn numerator_of(r: [u16; 6], logs: &[u16; 729], powers: &[u16; 728]) -> u16
+    requires { ⌜ Tables (now logs) (now powers) ⌝ }
+    ensures { λ v. ⌜ v ≡ numerator (at r) (at r 0) ⌝ }
+{
+    let b3 = field::cube_with(field::cube_with(r[3], logs, powers), logs, powers);
+    let b4 = field::cube_with(field::cube_with(r[4], logs, powers), logs, powers);
+    field::difference(
+        field::product_with(b4, r[5], logs, powers),
+        field::product_with(b3, r[0], logs, powers),
+    )
+}
+
+fn over_of(r: [u16; 6], num: u16, key: u16, logs: &[u16; 729], powers: &[u16; 728]) -> u16
+    requires { ⌜ Tables (now logs) (now powers) ⌝ }
+    ensures { λ v. ⌜ v ≡ add (times num (times 684 (cube (at r 3)))) (times 684 (times key (at r 4))) ⌝ }
+{
+    let c3 = field::cube_with(r[3], logs, powers);
+    let third = field::product_with(GAMMA_BACK, c3, logs, powers);
+    let fourth = field::product_with(key, r[4], logs, powers);
+    field::sum(
+        field::product_with(num, third, logs, powers),
+        field::product_with(GAMMA_BACK, fourth, logs, powers),
+    )
+}
+
+fn over_factor(r: [u16; 6], logs: &[u16; 729], powers: &[u16; 728]) -> u16
+    requires { ⌜ Tables (now logs) (now powers) ⌝ }
+    ensures { λ v. ⌜ v ≡ times (cube (cube (at r 3))) (times 684 (cube (at r 3))) ⌝ }
+{
+    let c3 = field::cube_with(r[3], logs, powers);
+    let third = field::product_with(GAMMA_BACK, c3, logs, powers);
+    field::product_with(field::cube_with(c3, logs, powers), third, logs, powers)
+}
+
+fn top_of(r: [u16; 6], logs: &[u16; 729], powers: &[u16; 728]) -> u16
+    requires { ⌜ Tables (now logs) (now powers) ⌝ }
+    ensures { λ v. ⌜ v ≡ times 684 (cube (cube (at r 2))) ⌝ }
+{
+    let b2 = field::cube_with(field::cube_with(r[2], logs, powers), logs, powers);
+    field::product_with(GAMMA_BACK, b2, logs, powers)
+}
+
 fn prepare(r: [u16; 6], known: u16, logs: &[u16; 729], powers: &[u16; 728]) -> Shared
     requires { ⌜ (known ≡ key (at r)) × Tables (now logs) (now powers) ⌝ }
     ensures { λ s. ⌜ Prepared (at r) s ⌝ }
 {
+    let num = numerator_of(r, logs, powers);
     let c3 = field::cube_with(r[3], logs, powers);
-    let c4 = field::cube_with(r[4], logs, powers);
     let c5 = field::cube_with(r[5], logs, powers);
-    let second = field::cube_with(field::cube_with(r[2], logs, powers), logs, powers);
-    let fourth = field::product_with(known, r[4], logs, powers);
     Shared {
         zeroth: r[0],
         first: r[1],
-        det0: field::product_with(r[5], c5, logs, powers),
-        det1: c4,
-        num0: field::product_with(field::cube_with(c4, logs, powers), r[5], logs, powers),
+        det0: det_of(r, logs, powers),
+        det1: field::cube_with(r[4], logs, powers),
+        num0: num,
         num1: field::cube_with(c3, logs, powers),
-        top0: field::product_with(GAMMA_BACK, second, logs, powers),
-        top1: field::product_with(GAMMA_BACK, fourth, logs, powers),
-        top2: field::product_with(GAMMA_BACK, c3, logs, powers),
+        over0: over_of(r, num, known, logs, powers),
+        over1: over_factor(r, logs, powers),
+        top: top_of(r, logs, powers),
         ninth: field::cube_with(c5, logs, powers),
         key: known,
     }
 }
 
-// The last symbol's ninth power, from the determinant and the numerator.
-fn ninth(s: Shared, d: u16, n: u16, logs: &[u16; 729], powers: &[u16; 728]) -> u16
+// The last symbol's ninth power, from the first symbol x and the determinant.
+fn ninth(s: Shared, x: u16, d: u16, logs: &[u16; 729], powers: &[u16; 728]) -> u16
     requires { ⌜ Tables (now logs) (now powers) ⌝ }
-    ensures { λ v. ⌜ v ≡ add (s .top0) (times (inverse d) (add (times n (s .top2)) (s .top1))) ⌝ }
+    ensures { λ v. ⌜ v ≡ add (s .top) (times (inverse d) (add (s .over0) (times (s .over1) x))) ⌝ }
 {
-    let t = field::sum(field::product_with(n, s.top2, logs, powers), s.top1);
+    let t = field::sum(s.over0, field::product_with(s.over1, x, logs, powers));
     let i = field::inverse_with(d, logs, powers);
-    field::sum(s.top0, field::product_with(i, t, logs, powers))
+    field::sum(s.top, field::product_with(i, t, logs, powers))
 }
 
-// The symbol in the middle, from them and the error x in the first one.
-fn middle(s: Shared, x: u16, d: u16, n: u16, logs: &[u16; 729], powers: &[u16; 728]) -> u16
+// The symbol in the middle, from them.
+fn middle(s: Shared, x: u16, d: u16, logs: &[u16; 729], powers: &[u16; 728]) -> u16
     requires { ⌜ Tables (now logs) (now powers) ⌝ }
-    ensures { λ v. ⌜ v ≡ add (s .first) (times (inverse (s .key)) (add (times (s .ninth) d) (times n (cube x)))) ⌝ }
+    ensures { λ v. ⌜ v ≡ add (s .first) (times (inverse (s .key)) (add (times (s .ninth) d) (times (add (s .num0) (times (s .num1) x)) (cube (minus (s .zeroth) x))))) ⌝ }
 {
+    let n = field::sum(s.num0, field::product_with(s.num1, x, logs, powers));
+    let c = field::cube_with(field::difference(s.zeroth, x), logs, powers);
     let t = field::sum(
         field::product_with(s.ninth, d, logs, powers),
-        field::product_with(n, field::cube_with(x, logs, powers), logs, powers),
+        field::product_with(n, c, logs, powers),
     );
     let i = field::inverse_with(s.key, logs, powers);
     field::sum(s.first, field::product_with(i, t, logs, powers))
@@ -103,14 +159,13 @@ fn attempt(card: [u16; 6], s: Shared, a: u16, logs: &[u16; 729], powers: &[u16; 
     requires { ⌜ (a < 27) × Prepared (spectrum card) s × Tables (now logs) (now powers) ⌝ }
     ensures { λ r. ⌜ (answer 2 r ≡ attempt card a) × Whole 2 card r ⌝ }
 {
-    let x = field::difference(s.zeroth, field::small_symbol(a));
-    let d = field::difference(field::product_with(s.det1, x, logs, powers), s.det0);
-    let n = field::difference(s.num0, field::product_with(s.num1, x, logs, powers));
-    let v = ninth(s, d, n, logs, powers);
+    let x = field::small_symbol(a);
+    let d = field::difference(s.det0, field::product_with(s.det1, x, logs, powers));
+    let v = ninth(s, x, d, logs, powers);
     if field::high(v) != 0 {
         return nothing();
     }
-    let f = middle(s, x, d, n, logs, powers);
+    let f = middle(s, x, d, logs, powers);
     let second = field::low(f);
     let third = field::high(f);
     let fourth = field::low(field::cube_with(v, logs, powers));

@@ -14,37 +14,35 @@ use Rattle.decoder.proofs.two.attempt.Statement.{statement}
 use Rattle.decoder.proofs.two.attempt.Tie as tie
 
 -- the last symbol's ninth power
-last : (h : tie.After-high) → let s = h .before .before .before .before .before .before .before .before in
+last : (h : tie.After-high) → let s = h .before .before .before .before .before in
     h .before .ninth .result ≡ ninth (spectrum (s .args .card)) (first-error (spectrum (s .args .card)) (s .args .a))
 last h =
-    let t = h .before in
-    let d = t .before .before .before in
+    let d = h .before .before in
     let b = d .before .before in
-    let s = b .before .before in
-    ninth-is (spectrum (s .args .card)) (s .args .s) (s .pre .1) (s .args .a) _ _ _ _ _ _ (b .before .small-symbol .ensures) (b .difference .ensures)
-    (d .before .product-with .ensures) (d .difference2 .ensures) (t .before .before .product-with2 .ensures) (t .before .difference3 .ensures) _ (t .ninth .ensures)
+    let s = b .before in
+    ninth-is (spectrum (s .args .card)) (s .args .s) (s .pre .1) (s .args .a) _ _ _ (b .small-symbol .ensures) (d .before .product-with .ensures) (d .difference .ensures) _
+    (h .before .ninth .ensures)
 
 -- the message, before it is held to the card
 proposal : (c : tie.After-low2) → let o = c .before .before .before in
-    let s = o .before .before .before .before .before .before .before .before .before .before .before in
+    let s = o .before .before .before .before .before .before .before .before in
     s .args .a ∷ o .low .result ∷ c .before .before .high2 .result ∷ c .low2 .result ∷ [] ≡ proposed (spectrum (s .args .card)) (s .args .a)
 proposal c =
     let n = c .before .before in
     let o = n .before in
     let m = o .before in
     let h = m .before .before in
-    let t = h .before in
-    let d = t .before .before .before in
+    let d = h .before .before in
     let b = d .before .before in
-    let s = b .before .before in
-    let f = middle-is (spectrum (s .args .card)) (s .args .s) (s .pre .1) (s .args .a) _ _ _ _ _ _ (b .before .small-symbol .ensures) (b .difference .ensures)
-    (d .before .product-with .ensures) (d .difference2 .ensures) (t .before .before .product-with2 .ensures) (t .before .difference3 .ensures) _ (m .middle .ensures) in
+    let s = b .before in
+    let f = middle-is (spectrum (s .args .card)) (s .args .s) (s .pre .1) (s .args .a) _ _ _ (b .small-symbol .ensures) (d .before .product-with .ensures) (d .difference .ensures) _
+    (m .middle .ensures) in
     proposed-is (spectrum (s .args .card)) (s .args .a) _ _ _ _ _ (last h) f (o .low .ensures) (n .high2 .ensures) (c .low2 .ensures ∙ ap low (c .before .cube-with .ensures))
 
 returns : tie.Need-returns
 returns c =
     let h = c .before .before in
-    let s = h .before .before .before .before .before .before .before .before in (
+    let s = h .before .before .before .before .before in (
       answer-none 2 _ (c .nothing .ensures)
           ∙ sym (attempt-none (s .args .card) (s .args .a) _ (last h) (λ z. c .before .if1 .taken (h .high .ensures ∙ z))),
       whole-none 2 (s .args .card) _ (c .nothing .ensures),
@@ -52,14 +50,14 @@ returns c =
 
 near-requires : tie.Need-near-requires
 near-requires c κs =
-    let s = c .before .before .before .before .before .before .before .before .before .before .before .before .before .before in
+    let s = c .before .before .before .before .before .before .before .before .before .before .before in
     (lit≤ tt, lit≤ tt, ap (is-message 2) (proposal c) ∙ proposed-message (spectrum (s .args .card)) (s .args .a) (s .pre .0))
 
 returns-2 : tie.Need-returns-2
 returns-2 c =
     let m = c .before .before .before .before .before in
     let h = m .before .before in
-    let s = h .before .before .before .before .before .before .before .before in (
+    let s = h .before .before .before .before .before in (
       c .near .ensures .0
           ∙ ap (if-near 2 (s .args .card)) (proposal (c .before))
           ∙ sym (attempt-some (s .args .card) (s .args .a) _ (last h) (sym (h .high .ensures) ∙ m .before .if1 .left)),
@@ -70,9 +68,6 @@ pub attempt-spec : {M : Type 1} → statement M
 attempt-spec =
     tie.close
     (tie.spec
-    (λ c κs. search needs)
-    (λ c κs. search needs)
-    (λ c κs. search needs)
     (λ c κs. search needs)
     (λ c κs. search needs)
     (λ c κs. search needs)
