@@ -7,15 +7,18 @@ use mathlib.Core.Logic.{_≢_}
 use mathlib.Core.Bool.{true}
 use mathlib.Core.List.{List, [], _∷_}
 use mathlib.Core.Option.{none, some}
-use Prim.Native.Nat.{ℕ, _≤_, _<_}
+use Prim.Native.Nat.{ℕ, _%_, _≤_, _<_}
+use native.Mathlib.Omega.{arith}
 use lib.Dec.{lit≤, lit<}
 use borrow.Author.Tests.{eq-eqb, ne-eqb}
 use Rattle.algebra.specs.Field.{add, minus, times, cube, small}
 use Rattle.algebra.specs.Lists.{table}
 use Rattle.algebra.specs.Tests.{passes}
+use Rattle.algebra.specs.Sums.{sums, minus-self, minus-none}
+use Rattle.algebra.specs.Linear.{at-minus}
 use Rattle.algebra.specs.Products.{ring}
 use Rattle.algebra.specs.Inverses.{inverse}
-use Rattle.algebra.specs.SmallField.{low, high, low-below, high-below}
+use Rattle.algebra.specs.SmallField.{low, high, high-linear, low-below, high-below}
 use Rattle.rank.specs.Definitions.{at, is-card}
 use Rattle.coding.specs.Code.{is-message}
 use Rattle.coding.specs.Options.{first-of}
@@ -82,6 +85,7 @@ pub record Prepared (r : ℕ → ℕ) (s : Shared) : Type 0 where
   pub over0 : s .over0 ≡ add (times (numerator r (r 0)) (times 684 (cube (r 3)))) (times 684 (times (key r) (r 4)))
   pub over1 : s .over1 ≡ times (cube (cube (r 3))) (times 684 (cube (r 3)))
   pub top : s .top ≡ times 684 (cube (cube (r 2)))
+  pub beyond : s .beyond ≡ high (minus 0 (s .top))
   pub ninth : s .ninth ≡ cube (cube (r 5))
   pub key : s .key ≡ key r
 
@@ -100,6 +104,7 @@ prepared-of c r s e p =
       over0 = q .over0;
       over1 = q .over1;
       top = q .top;
+      beyond = q .beyond;
       ninth = q .ninth;
       key = q .key;
     }
@@ -131,9 +136,9 @@ module _ (r : ℕ → ℕ) (s : Shared) (p : Prepared r s) (a x q d : ℕ) (ex :
   unfolding first-error
   det-is = rw (ed, eq, p .det0, p .det1, ← ex) (det-less r x)
 
-  pub ninth-is : (v : ℕ) → v ≡ add (s .top) (times (inverse d) (add (s .over0) (times (s .over1) x))) → v ≡ ninth r (first-error r a)
+  pub ninth-is : (q : ℕ) → q ≡ times (inverse d) (add (s .over0) (times (s .over1) x)) → add (s .top) q ≡ ninth r (first-error r a)
   unfolding ninth first-error
-  ninth-is v e = rw (e, p .top, p .over0, p .over1, over-more r x _ _, det-is, ex)
+  ninth-is q e = rw (e, p .top, p .over0, p .over1, over-more r x _ _, det-is, ex)
 
   pub middle-is : (f : ℕ) → f ≡ add (s .first) (times (inverse (s .key)) (add (times (s .ninth) d) (times (add (s .num0) (times (s .num1) x)) (cube (minus (s .zeroth) x)))))
       → f ≡ middle r (first-error r a)
@@ -150,15 +155,24 @@ pub proposed-message : (r : ℕ → ℕ) (a : ℕ) → a < 27 → is-message 2 (
 unfolding is-message proposed
 proposed-message r a h = passes 4 26 (proposed r a) refl (h, (low-below _, (high-below _, (low-below _, tt))))
 
--- AN ATTEMPT
-module _ (c : List ℕ) (a v : ℕ) (e : v ≡ ninth (spectrum c) (first-error (spectrum c) a)) where
-  pub attempt-none : high v ≢ 0 → attempt c a ≡ none
-  unfolding attempt
-  attempt-none n = rw (← e, ne-eqb (high v) 0 n)
+-- AN ATTEMPT: the last symbol's ninth power has the parts t and q, and is small if their high numbers cancel
+high-parts : (t q : ℕ) → high (add t q) ≡ minus (high q) (high (minus 0 t))
+high-parts t q = ap high turned ∙ at-minus high-linear q (minus 0 t)
+  where
+    turned : add t q ≡ minus q (minus 0 t)
+    turned = simp sums
 
-  pub attempt-some : high v ≡ 0 → attempt c a ≡ if-near 2 c (proposed (spectrum c) a)
+module _ (c : List ℕ) (a t q h : ℕ) (eh : h ≡ high (minus 0 t)) (e : add t q ≡ ninth (spectrum c) (first-error (spectrum c) a)) where
+  pub attempt-none : high q ≢ h → attempt c a ≡ none
   unfolding attempt
-  attempt-some z = rw (← e, eq-eqb (high v) 0 z)
+  attempt-none n = rw (← e, ne-eqb (high (add t q)) 0 (λ z. n (same (sym (high-parts t q) ∙ z) ∙ sym eh)))
+    where
+      same : minus (high q) (high (minus 0 t)) ≡ 0 → high q ≡ high (minus 0 t)
+      same z = omega (arith, minus-none (high q) (high (minus 0 t)) (ap (λ (x : ℕ). x % 729) z), high-below q, high-below (minus 0 t))
+
+  pub attempt-some : high q ≡ h → attempt c a ≡ if-near 2 c (proposed (spectrum c) a)
+  unfolding attempt
+  attempt-some s = rw (← e, eq-eqb (high (add t q)) 0 (high-parts t q ∙ rw (s ∙ eh) (minus-self _)))
 
 -- THE ANSWER: where the key is 0, and after each attempt
 module _ (c : List ℕ) (card : is-card c ≡ true) (r : List ℕ) (e : r ≡ table 6 (spectrum c)) (k : ℕ) (ek : k ≡ key (at r)) where

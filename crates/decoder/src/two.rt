@@ -23,7 +23,7 @@ use candidate::nothing;
 const GAMMA_BACK: u16 = 684;
 
 // What all proposals share. The determinant, the numerator and what stands over the determinant in the last symbol's ninth power each are a constant
-// and a multiple of the message's first symbol.
+// and a multiple of the message's first symbol. `beyond` is the high number that makes the last symbol small.
 pub struct Shared {
     pub zeroth: u16,
     pub first: u16,
@@ -34,6 +34,7 @@ pub struct Shared {
     pub over0: u16,
     pub over1: u16,
     pub top: u16,
+    pub beyond: u16,
     pub ninth: u16,
     pub key: u16,
 }
@@ -112,6 +113,7 @@ fn prepare(r: [u16; 6], known: u16, logs: &[u16; 729], powers: &[u16; 728]) -> S
     ensures { λ s. ⌜ Prepared (at r) s ⌝ }
 {
     let num = numerator_of(r, logs, powers);
+    let top = top_of(r, logs, powers);
     let c3 = field::cube_with(r[3], logs, powers);
     let c5 = field::cube_with(r[5], logs, powers);
     Shared {
@@ -123,20 +125,21 @@ fn prepare(r: [u16; 6], known: u16, logs: &[u16; 729], powers: &[u16; 728]) -> S
         num1: field::cube_with(c3, logs, powers),
         over0: over_of(r, num, known, logs, powers),
         over1: over_factor(r, logs, powers),
-        top: top_of(r, logs, powers),
+        top,
+        beyond: field::high(field::negative(top)),
         ninth: field::cube_with(c5, logs, powers),
         key: known,
     }
 }
 
-// The last symbol's ninth power, from the first symbol x and the determinant.
-fn ninth(s: Shared, x: u16, d: u16, logs: &[u16; 729], powers: &[u16; 728]) -> u16
+// What the last symbol's ninth power is more than `top`, from the first symbol x and the determinant.
+fn quotient(s: Shared, x: u16, d: u16, logs: &[u16; 729], powers: &[u16; 728]) -> u16
     requires { ⌜ Tables (now logs) (now powers) ⌝ }
-    ensures { λ v. ⌜ v ≡ add (s .top) (times (inverse d) (add (s .over0) (times (s .over1) x))) ⌝ }
+    ensures { λ q. ⌜ q ≡ times (inverse d) (add (s .over0) (times (s .over1) x)) ⌝ }
 {
     let t = field::sum(s.over0, field::product_with(s.over1, x, logs, powers));
     let i = field::inverse_with(d, logs, powers);
-    field::sum(s.top, field::product_with(i, t, logs, powers))
+    field::product_with(i, t, logs, powers)
 }
 
 // The symbol in the middle, from them.
@@ -154,17 +157,19 @@ fn middle(s: Shared, x: u16, d: u16, logs: &[u16; 729], powers: &[u16; 728]) -> 
     field::sum(s.first, field::product_with(i, t, logs, powers))
 }
 
-// The message proposed for a first number, where its last symbol is small and it is near the card.
+// The message proposed for a first number, where its last symbol is small and it is near the card. It is small if the high numbers of the two parts
+// of its ninth power cancel.
 fn attempt(card: [u16; 6], s: Shared, a: u16, logs: &[u16; 729], powers: &[u16; 728]) -> Found
     requires { ⌜ (a < 27) × Prepared (spectrum card) s × Tables (now logs) (now powers) ⌝ }
     ensures { λ r. ⌜ (answer 2 r ≡ attempt card a) × Whole 2 card r ⌝ }
 {
     let x = field::small_symbol(a);
     let d = field::difference(s.det0, field::product_with(s.det1, x, logs, powers));
-    let v = ninth(s, x, d, logs, powers);
-    if field::high(v) != 0 {
+    let q = quotient(s, x, d, logs, powers);
+    if field::high(q) != s.beyond {
         return nothing();
     }
+    let v = field::sum(s.top, q);
     let f = middle(s, x, d, logs, powers);
     let second = field::low(f);
     let third = field::high(f);

@@ -1,6 +1,7 @@
 -- `decoder::two::prepare` meets its contract: each field by its own call. Assumes nothing.
 use mathlib.Core.Path.{refl, ap, _∙_}
 use Rattle.algebra.specs.Field.{cube}
+use Rattle.algebra.specs.SmallField.{high}
 use Rattle.rank.specs.Definitions.{at}
 use borrow.Author.Needs.{needs}
 use Rattle.decoder.proofs.two.prepare.Statement.{statement}
@@ -9,10 +10,12 @@ use Rattle.decoder.proofs.two.prepare.Tie as tie
 returns : tie.Need-returns
 unfolding at
 returns c =
-    let o = c .before .before .before in
+    let g = c .before in
+    let o = g .before .before .before in
     let d = o .before .before .before in
     let b = d .before in
-    let n = b .before .before in
+    let t = b .before .before in
+    let n = t .before in
     let s = n .before in
     record {
       zeroth = refl;
@@ -22,8 +25,9 @@ returns c =
       num0 = n .numerator-of .ensures;
       num1 = o .before .cube-with4 .ensures ∙ ap cube (b .before .cube-with .ensures);
       over0 = rw (o .over-of .ensures, n .numerator-of .ensures, s .pre .0);
-      over1 = c .before .before .over-factor .ensures;
-      top = c .before .top-of .ensures;
+      over1 = g .before .before .over-factor .ensures;
+      top = t .top-of .ensures;
+      beyond = g .high .ensures ∙ ap high (g .before .negative .ensures);
       ninth = c .cube-with5 .ensures ∙ ap cube (b .cube-with2 .ensures);
       key = s .pre .0;
     }
@@ -33,14 +37,16 @@ prepare-spec =
     tie.close
     (tie.spec
     (λ c κs. search needs)
-    (λ c. search needs)
     (λ c κs. search needs)
     (λ c. search needs)
     (λ c κs. search needs)
     (λ c. search needs)
+    (λ c κs. search needs)
+    (λ c. search needs)
     (λ c. search needs)
     (λ c κs. search needs)
     (λ c. search needs)
+    (λ c κs. search needs)
     (λ c κs. search needs)
     (λ c κs. search needs)
     (λ c κs. search needs)
