@@ -1,6 +1,6 @@
 -- The message of a polynomial's coefficients in an array of ten, with one branch-free rule for the last number; and cards without damage.
 -- Assumes nothing.
--- Main: few-places, all-places, message-is, spectrum-at, clean-message, clean-shaped, from-next, from-some, from-end.
+-- Main: few-places, all-places, message-is, spectrum-at, clean-message, shaped-same, clean-shaped, from-next, from-some, from-end.
 use mathlib.Core.Path.{_≡_, refl, sym, ap, _∙_}
 use mathlib.Core.Logic.{_≢_}
 use mathlib.Core.Bool.{true, false}
@@ -62,23 +62,25 @@ unfolding none-from
 none-same zero i f g h = refl
 none-same (suc n) i f g h = rw (h i (omega arith), none-same n (suc i) f g (λ j l. h j (omega arith)))
 
-pub clean-shaped : (k : ℕ) → k ≤ 5 → (c r : List ℕ) → r ≡ table 6 (spectrum c) → shaped k (at r) ≡ shaped k (spectrum c)
+pub shaped-same : (k : ℕ) → k ≤ 5 → (f g : ℕ → ℕ) → ((i : ℕ) → i < 6 → f i ≡ g i) → shaped k f ≡ shaped k g
 unfolding shaped
-clean-shaped k q c r e =
-    rw (spectrum-at c r e 0 (omega arith), spectrum-at c r e k (omega arith), none-same (5 - k) (suc k) (at r) (spectrum c) (λ j h. spectrum-at c r e j (omega arith)))
+shaped-same k q f g h = rw (h 0 (omega arith), h k (omega arith), none-same (5 - k) (suc k) f g (λ j l. h j (omega arith)))
+
+pub clean-shaped : (k : ℕ) → k ≤ 5 → (c r : List ℕ) → r ≡ table 6 (spectrum c) → shaped k (at r) ≡ shaped k (spectrum c)
+clean-shaped k q c r e = shaped-same k q (at r) (spectrum c) (spectrum-at c r e)
 
 -- THE LOOP over the symbols beyond: the test from i on, one symbol less, and its ends
-abbrev pub From : (i : ℕ) (r : List ℕ) → ℕ → ℕ → Type 0
-From i r n j = none-from n j (at r) ≡ none-from (6 - i) i (at r)
+abbrev pub From : (i : ℕ) (f : ℕ → ℕ) → ℕ → ℕ → Type 0
+From i f n j = none-from n j f ≡ none-from (6 - i) i f
 
-pub from-next : (i n j : ℕ) (r : List ℕ) → i < 6 → From i r n j → at r i ≡ 0 → From (i + 1) r n j
+pub from-next : (i n j : ℕ) (f : ℕ → ℕ) → i < 6 → From i f n j → f i ≡ 0 → From (i + 1) f n j
 unfolding none-from
-from-next i n j r h s z = s ∙ (let e : 6 - i ≡ suc (6 - (i + 1)) = omega arith in rw (e, eq-eqb (at r i) 0 z, add-one i))
+from-next i n j f h s z = s ∙ (let e : 6 - i ≡ suc (6 - (i + 1)) = omega arith in rw (e, eq-eqb (f i) 0 z, add-one i))
 
-pub from-some : (i n j : ℕ) (r : List ℕ) → i < 6 → From i r n j → at r i ≢ 0 → false ≡ none-from n j (at r)
+pub from-some : (i n j : ℕ) (f : ℕ → ℕ) → i < 6 → From i f n j → f i ≢ 0 → false ≡ none-from n j f
 unfolding none-from
-from-some i n j r h s z = sym (s ∙ (let e : 6 - i ≡ suc (6 - (i + 1)) = omega arith in rw (e, ne-eqb (at r i) 0 z)))
+from-some i n j f h s z = sym (s ∙ (let e : 6 - i ≡ suc (6 - (i + 1)) = omega arith in rw (e, ne-eqb (f i) 0 z)))
 
-pub from-end : (i n j : ℕ) (r : List ℕ) → 6 ≤ i → From i r n j → true ≡ none-from n j (at r)
+pub from-end : (i n j : ℕ) (f : ℕ → ℕ) → 6 ≤ i → From i f n j → true ≡ none-from n j f
 unfolding none-from
-from-end i n j r h s = sym (s ∙ (let e : 6 - i ≡ 0 = omega arith in rw e))
+from-end i n j f h s = sym (s ∙ (let e : 6 - i ≡ 0 = omega arith in rw e))

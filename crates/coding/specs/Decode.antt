@@ -1,6 +1,6 @@
 -- What mending answers: decode is the first message near a card, among all. It says what the answer is, and is never computed. Assumes
 -- nothing.
--- Main: decode, Answers, decode-answers, proposal-answers, proposals-answer, near-answer, same-answer.
+-- Main: decode, Answers, decode-answers, proposal-answers, first-answers, proposals-answer, near-answer, same-answer.
 use mathlib.Core.Path.{_≡_, refl, sym, ap}
 use mathlib.Core.Bool.{Bool, true, false, _&&_, cond}
 use mathlib.Core.List.{List, [], _∷_}
@@ -71,16 +71,21 @@ decode-answers k c = record {
 pub proposal-answers : (k : ℕ) (c m : List ℕ) → ((w : List ℕ) → Near k c w → m ≡ w) → Answers k c (if-near k c m)
 proposal-answers k c m h = record { right = if-near-good k c m; all = λ w near. rw (h w near) (if-near-got k c w near) }
 
--- and so are proposals for n numbers, each tested first, if every message near the card is the one for its own number
+-- and so is the first answer for n numbers, each right, if every message near the card has a number with an answer
+pub first-answers : (k : ℕ) (c : List ℕ) (n : ℕ) (f : ℕ → Option (List ℕ)) (number : List ℕ → ℕ) → ((a : ℕ) → Good (Near k c) (f a))
+    → ((w : List ℕ) → Near k c w → (number w < n) × Got (f (number w))) → Answers k c (first-of n f)
+first-answers k c n f number good h = record {
+  right = good-first (Near k c) n f good;
+  all = λ w near. let (l, g) = h w near in got-first n (number w) f l g;
+}
+
+-- as for proposals, each tested first, if every message near the card is the one for its own number
 pub proposals-answer : (k : ℕ) (c : List ℕ) (n : ℕ) (test : ℕ → Bool) (proposal : ℕ → List ℕ) (number : List ℕ → ℕ)
     → ((w : List ℕ) → Near k c w → (number w < n) × (test (number w) ≡ true) × (proposal (number w) ≡ w))
     → Answers k c (first-of n (λ a. cond (test a) (if-near k c (proposal a)) none))
-proposals-answer k c n test proposal number h = record {
-  right = good-first (Near k c) n _ (λ a. good-if (Near k c) (if-near k c (proposal a)) (test a) (if-near-good k c (proposal a)));
-  all = λ w near.
-      let (l, t, e) = h w near in
-      got-first n (number w) _ l (got-if (if-near k c (proposal (number w))) (test (number w)) t (rw e (if-near-got k c w near)));
-}
+proposals-answer k c n test proposal number h = first-answers k c n _ number
+    (λ a. good-if (Near k c) (if-near k c (proposal a)) (test a) (if-near-good k c (proposal a)))
+    (λ w near. let (l, t, e) = h w near in (l, got-if (if-near k c (proposal (number w))) (test (number w)) t (rw e (if-near-got k c w near))))
 
 module _ {k : ℕ} {c : List ℕ} where
   pub answer-near : {m : List ℕ} {o : Option (List ℕ)} → Answers k c o → o ≡ some m → Near k c m

@@ -1,6 +1,6 @@
 -- Decoding for k = 1 by algebra: four of the error's coefficients are the card's, so two of its six equations give the annihilator and two
 -- more the other coefficients. Assumes nothing.
--- Main: lead, double, decode-one, one-is-decode.
+-- Main: minor, double, decode-one, one-is-decode.
 use mathlib.Core.Path.{_≡_, refl, sym, ap, _∙_}
 use mathlib.Core.Bool.{Bool, true, false, cond}
 use mathlib.Core.List.{List, [], _∷_}
@@ -13,17 +13,18 @@ use Rattle.algebra.specs.Field.{add, minus, times, cube, small, gamma}
 use Rattle.algebra.specs.Sums.{Zero, add-whole}
 use Rattle.algebra.specs.Linear.{at-zero}
 use Rattle.algebra.specs.Products.{cube-linear, cube-times, times-comm, times-whole}
-use Rattle.algebra.specs.Inverses.{inverse, no-divisors}
+use Rattle.algebra.specs.Inverses.{inverse, times-not-zero}
 use Rattle.algebra.specs.SmallField.{small-linear, low, high}
 use Rattle.rank.specs.Definitions.{at, is-card}
 use Rattle.coding.specs.Code.{Near}
 use Rattle.coding.specs.Coefficients.{inners, higher, coefficients, read, read-higher, read-coefficients}
-use Rattle.coding.specs.Decode.{if-near, decode, proposal-answers}
+use Rattle.coding.specs.Decode.{if-near, decode, Answers, proposal-answers}
 use Rattle.coding.specs.Spectrum.{spectrum}
 use Rattle.coding.specs.Errors.{errors, errors-beyond}
 use Rattle.coding.specs.Annihilator.{Annihilated, near-annihilated}
 use Rattle.coding.specs.Algebraic.{solved-1, solved-0, without, middle-step, key, cube-minus}
-use Rattle.coding.specs.RankOne.{single, near-key}
+use Rattle.coding.specs.RankOne.{key-ratio}
+use Rattle.coding.specs.Closed.{if-closed, closed-answers}
 use Rattle.coding.specs.Proved.{answered}
 
 -- THE ANNIHILATOR of a spectrum, times a determinant: its lowest coefficient and its middle one
@@ -84,25 +85,21 @@ module _ (c : List ℕ) (card : is-card c ≡ true) (m : List ℕ) (near : Near 
   unfolding minor mean
   mean-minor = rw (beyond 2 (lit< tt), beyond 3 (lit< tt), beyond 4 (lit< tt), beyond 5 (lit< tt)) at (mean-times A)
 
-  near-lead : lead r ≡ 0 → single 1 r (r 4) ≡ m
-  unfolding minor minus
-  near-lead z = near-key 1 (lit≤ tt) (lit≤ tt) c card m near (key-minor r ∙ ap cube none ∙ at-zero cube-linear)
-    where
-      none : minor r ≡ 0
-      none = sym (add-whole _ _) ∙ no-divisors (A .L0) (minor r) (A .unit) (times-comm (A .L0) _ ∙ lead-minor ∙ z)
+  module _ (n : ¬ Zero (minor r)) where
+    lead-unit : ¬ Zero (lead r)
+    lead-unit z = times-not-zero (minor r) (A .L0) n (A .unit) (ap (λ (x : ℕ). x % 729) lead-minor ∙ z)
 
-  module _ (n : ¬ Zero (lead r)) where
     zeroth-is : zeroth r ≡ small (at m 0)
     unfolding zeroth solved errors coefficients at
     zeroth-is =
-        middle-step (minor r) (mean r) (lead r) (cube (cube (r 4))) (cube (r 5)) _ (r 0) (small (at m 0)) n
+        middle-step (minor r) (mean r) (lead r) (cube (cube (r 4))) (cube (r 5)) _ (r 0) (small (at m 0)) lead-unit
         (without _ _ _ (A .L1) (A .L0) _ _ _ mean-minor lead-minor (rw (beyond 4 (lit< tt), beyond 5 (lit< tt)) at (A .equation 0 (lit< tt)))) refl
         ∙ mod-eq-of-lt (small-linear .below (at m 0))
 
     first-is : first r ≡ times gamma (small (at m 1))
     unfolding first solved errors coefficients higher inners at
     first-is =
-        middle-step (minor r) (mean r) (lead r) (cube (cube (r 5))) _ _ (r 1) (times gamma (small (at m 1))) n
+        middle-step (minor r) (mean r) (lead r) (cube (cube (r 5))) _ _ (r 1) (times gamma (small (at m 1))) lead-unit
         (without _ _ _ (A .L1) (A .L0) _ _ _ mean-minor lead-minor (rw (beyond 5 (lit< tt), ← zeroth-is) at (A .equation 1 (lit< tt)))) refl
         ∙ times-whole gamma (small (at m 1))
 
@@ -110,18 +107,27 @@ module _ (c : List ℕ) (card : is-card c ≡ true) (m : List ℕ) (near : Near 
     unfolding double coefficients higher inners read read-higher
     near-double = rw (zeroth-is, first-is) (read-coefficients 1 (lit≤ tt) (lit≤ tt) m (near .message))
 
--- DECODING for k = 1: one proposal
+-- DECODING for k = 1: where the determinant is 0 the error has rank 1 or none, else one message is held to the card
 unfoldable pub decode-one : (card : List ℕ) → Option (List ℕ)
-decode-one c = if-near 1 c (cond (eqb (lead (spectrum c)) 0) (single 1 (spectrum c) (spectrum c 4)) (double (spectrum c)))
+decode-one c = cond (eqb (minor (spectrum c)) 0) (if-closed 1 (spectrum c) (spectrum c 4)) (if-near 1 c (double (spectrum c)))
 
-lead-whole : (r : ℕ → ℕ) → lead r % 729 ≡ lead r
-unfolding lead minus
-lead-whole r = add-whole _ _
+minor-whole : (r : ℕ → ℕ) → minor r % 729 ≡ minor r
+unfolding minor minus
+minor-whole r = add-whole _ _
 
-pub one-is-decode : (c : List ℕ) → is-card c ≡ true → decode-one c ≡ decode 1 c
-unfolding decode-one
-one-is-decode c card = answered 1 (lit≤ tt) (lit≤ tt) c card _ (proposal-answers 1 c _ (λ m near. go m near (eqb (lead (spectrum c)) 0) refl))
-  where
-    go : (m : List ℕ) → Near 1 c m → (b : Bool) → eqb (lead (spectrum c)) 0 ≡ b → cond b (single 1 (spectrum c) (spectrum c 4)) (double (spectrum c)) ≡ m
-    go m near true e = near-lead c card m near (eqb-true (lead (spectrum c)) 0 e)
-    go m near false e = near-double c card m near (λ z. eqb-false (lead (spectrum c)) 0 e (sym (lead-whole (spectrum c)) ∙ z))
+module _ (c : List ℕ) (card : is-card c ≡ true) where
+  single-answer : minor (spectrum c) ≡ 0 → Answers 1 c (if-closed 1 (spectrum c) (spectrum c 4))
+  single-answer z = closed-answers 1 (lit≤ tt) (lit≤ tt) c card (spectrum c 4) (λ m near.
+      (key-ratio 1 (lit≤ tt) (lit≤ tt) c card m near (key-minor (spectrum c) ∙ ap cube z ∙ at-zero cube-linear), sym (beyond c card m near 4 (lit< tt))))
+
+  double-answer : ¬ Zero (minor (spectrum c)) → Answers 1 c (if-near 1 c (double (spectrum c)))
+  double-answer n = proposal-answers 1 c _ (λ m near. near-double c card m near n)
+
+  -- THE SAME as decode
+  pub one-is-decode : decode-one c ≡ decode 1 c
+  unfolding decode-one
+  one-is-decode = answered 1 (lit≤ tt) (lit≤ tt) c card _ (go (eqb (minor (spectrum c)) 0) refl)
+    where
+      go : (b : Bool) → eqb (minor (spectrum c)) 0 ≡ b → Answers 1 c (cond b (if-closed 1 (spectrum c) (spectrum c 4)) (if-near 1 c (double (spectrum c))))
+      go true e = single-answer (eqb-true (minor (spectrum c)) 0 e)
+      go false e = double-answer (λ z. eqb-false (minor (spectrum c)) 0 e (sym (minor-whole (spectrum c)) ∙ z))

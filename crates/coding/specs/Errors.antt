@@ -1,6 +1,6 @@
 -- The error of a card, if a message near it was meant: its coefficients are those of the card less those of the message, and its rank is at
 -- most the radius. Assumes nothing.
--- Main: errors, near-rank, errors-beyond, given-back.
+-- Main: errors, errors-rank, near-rank, errors-beyond, given-back.
 use mathlib.Core.Path.{_≡_, sym, ap, ap₂, _∙_, fun-ext}
 use mathlib.Core.Bool.{true}
 use mathlib.Core.List.{List}
@@ -29,7 +29,7 @@ ev-difference : (r f : ℕ → ℕ) (y : ℕ) → ev (table 6 (λ i. minus (r i)
 unfolding ev table
 ev-difference r f y = simp ring
 
-taken-back : (r f : ℕ) → minus r (minus r f) ≡ f % 729
+pub taken-back : (r f : ℕ) → minus r (minus r f) ≡ f % 729
 taken-back r f = simp ring
 
 module _ (k : ℕ) (p : 1 ≤ k) (q : k ≤ 5) (c : List ℕ) (card : is-card c ≡ true) (m : List ℕ) where
@@ -47,9 +47,12 @@ module _ (k : ℕ) (p : 1 ≤ k) (q : k ≤ 5) (c : List ℕ) (card : is-card c 
   error-values = ap images (fun-ext (ev-difference (spectrum c) (at (coefficients k m)))) ∙ ap₂ difference card-is word-is
 
   -- THEIR RANK
-  pub near-rank : Near k c m → rank (images (ev (table 6 (errors k c m)))) ≤ radius k
+  pub errors-rank : apart (word k m) c ≡ rank (images (ev (table 6 (errors k c m))))
   unfolding apart
-  near-rank near = rw error-values (omega (arith, near .within, apart-sym c (word k m)))
+  errors-rank = apart-sym (word k m) c ∙ ap rank (sym error-values)
+
+  pub near-rank : Near k c m → rank (images (ev (table 6 (errors k c m)))) ≤ radius k
+  near-rank near = rw (← errors-rank) (near .within)
 
   -- beyond the message's coefficients they are the card's
   pub errors-beyond : (i : ℕ) → k < i → errors k c m i ≡ spectrum c i

@@ -29,6 +29,7 @@ pub mod Algebraic
 pub mod RankOne
 -- and so for each k
 pub mod Clean
+pub mod Closed
 pub mod DecodeOne
 pub mod DecodeTwo
 pub mod DecodeSingle

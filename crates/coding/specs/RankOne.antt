@@ -1,6 +1,6 @@
--- Errors of rank 1 or none: each coefficient's cube is the same multiple of the next, so two coefficients in a row give all, and the message
--- is computed from the card's spectrum. Assumes nothing.
--- Main: next-error, chain, single, Ratio, ratio, chained, near-single, near-key.
+-- Errors of rank 1 or none: each coefficient's cube is the same multiple of the next, so two coefficients in a row give all, and the
+-- message is what the card's spectrum has besides. Assumes nothing.
+-- Main: next-error, chain, single, Ratio, ratio, chained, key-ratio.
 use mathlib.Core.Path.{_≡_, sym, ap, ap₂, _∙_}
 use mathlib.Core.Bool.{true}
 use mathlib.Core.List.{List, [], _∷_}
@@ -11,20 +11,20 @@ use native.Mathlib.Omega.{arith}
 use lib.Dec.{lit<}
 use lib.ListN.{length}
 use Rattle.algebra.specs.Field.{add, minus, times, cube, risen}
-use Rattle.algebra.specs.Lists.{table, table-same, table-at}
+use Rattle.algebra.specs.Lists.{table}
 use Rattle.algebra.specs.Tests.{below-six}
-use Rattle.algebra.specs.Sums.{Zero, add-whole, minus-rest, minus-none}
+use Rattle.algebra.specs.Sums.{Zero, add-whole, minus-none}
 use Rattle.algebra.specs.Combinations.{Span, span-zero, Independent}
 use Rattle.algebra.specs.Linear.{at-zero, at-rest, images}
 use Rattle.algebra.specs.Products.{ring, products, cube-linear, cube-times, times-comm, times-zero, zero-times, times-whole}
 use Rattle.algebra.specs.Inverses.{inverse, divide, no-divisors, times-not-zero, risen-not-zero}
 use Rattle.algebra.specs.Polynomials.{ev, lower, lower-linear, lower-self}
-use Rattle.rank.specs.Definitions.{at, is-card, rank}
+use Rattle.rank.specs.Definitions.{is-card, rank}
 use Rattle.rank.specs.Echelon.{rank-echelon}
 use Rattle.coding.specs.Code.{Near}
-use Rattle.coding.specs.Coefficients.{coefficients, length-coefficients, read, read-coefficients}
+use Rattle.coding.specs.Coefficients.{read}
 use Rattle.coding.specs.Spectrum.{spectrum}
-use Rattle.coding.specs.Errors.{errors, errors-beyond, given-back}
+use Rattle.coding.specs.Errors.{errors, errors-beyond}
 use Rattle.coding.specs.Annihilator.{Annihilated, value-spanned, on-span, cubed, none-everywhere, near-annihilated}
 use Rattle.coding.specs.Algebraic.{det, key, key-times, zero-factor, cube-minus}
 
@@ -175,7 +175,7 @@ module _ (e : ℕ → ℕ) (A : Annihilated e) (none : key e ≡ 0) where
       same : times (cube (e 4)) (e 0) ≡ times (e 5) (cube (e 5))
       same = sym (times-whole _ _) ∙ minus-none (times (cube (e 4)) (e 0)) (times (e 5) (cube (e 5))) (ap (λ (x : ℕ). x % 729) det-none) ∙ times-whole _ _
 
-  pub ratio-of-key : Ratio e
+  ratio-of-key : Ratio e
   ratio-of-key = elim (ℕ-discrete (e 5 % 729) 0) [ yes z ↦ ratio-none z | no n ↦ ratio-some n ]
 
 -- THE COEFFICIENTS, THEN, are the chain's
@@ -183,23 +183,23 @@ next-rest : (u v x : ℕ) → next-error u v (x % 729) ≡ next-error u v x
 unfolding next-error
 next-rest u v x = ap (times _) (at-rest cube-linear x)
 
+pub next-none : (u v x : ℕ) → Zero v → next-error u v x ≡ 0
+unfolding next-error
+next-none u v x z = ap (λ (t : ℕ). times t (cube x)) (zero-factor v (inverse (cube u)) z) ∙ zero-times (cube x)
+
 module _ (e : ℕ → ℕ) (R : Ratio e) where
   step-none : (i : ℕ) → i < 6 → Zero (e ((i + 5) % 6)) → Zero (e i)
   step-none i h z = no-divisors (R .P) (e i) (R .unit) (sym (R .equation i h) ∙ none-cube _ z)
 
   module _ (z₅ : Zero (e 5)) where
-    all-none : (i : ℕ) → i < 5 → Zero (e i)
+    all-none : (i : ℕ) → i < 6 → Zero (e i)
     all-none zero h = step-none 0 (lit< tt) z₅
     all-none (suc i) h = step-none (suc i) (omega arith) (let w : (suc i + 5) % 6 ≡ i = omega arith in rw w (all-none i (omega arith)))
 
-    next-none : (x : ℕ) → next-error (e 4) (e 5) x ≡ 0
-    unfolding next-error
-    next-none x = ap (λ (t : ℕ). times t (cube x)) (zero-factor (e 5) (inverse (cube (e 4))) z₅) ∙ zero-times (cube x)
-
-    chained-none : (i : ℕ) → i < 5 → chain (e 4) (e 5) i ≡ e i % 729
+    chained-none : (i : ℕ) → i < 6 → chain (e 4) (e 5) i ≡ e i % 729
     unfolding chain
-    chained-none zero h = next-none _ ∙ sym (all-none 0 h)
-    chained-none (suc i) h = next-none _ ∙ sym (all-none (suc i) h)
+    chained-none zero h = next-none _ _ _ z₅ ∙ sym (all-none 0 h)
+    chained-none (suc i) h = next-none _ _ _ z₅ ∙ sym (all-none (suc i) h)
 
   module _ (n₅ : ¬ Zero (e 5)) where
     next-is : (x y : ℕ) → cube x ≡ times (R .P) y → next-error (e 4) (e 5) x ≡ y % 729
@@ -212,7 +212,7 @@ module _ (e : ℕ → ℕ) (R : Ratio e) where
         before : (a b : ℕ) → times (times a b) (times (R .P) y) ≡ times b (times (times (R .P) a) y)
         before a b = simp products
 
-    chained-some : (i : ℕ) → i < 5 → chain (e 4) (e 5) i ≡ e i % 729
+    chained-some : (i : ℕ) → i < 6 → chain (e 4) (e 5) i ≡ e i % 729
     unfolding chain
     chained-some zero h = next-is (e 5) (e 0) (R .equation 0 (lit< tt))
     chained-some (suc i) h =
@@ -220,31 +220,13 @@ module _ (e : ℕ → ℕ) (R : Ratio e) where
         ∙ next-rest (e 4) (e 5) (e i)
         ∙ next-is (e i) (e (suc i)) (let w : (suc i + 5) % 6 ≡ i = omega arith in rw w at (R .equation (suc i) (omega arith)))
 
-  pub chained : (i : ℕ) → i < 5 → chain (e 4) (e 5) i ≡ e i % 729
+  pub chained : (i : ℕ) → i < 6 → chain (e 4) (e 5) i ≡ e i % 729
   chained i h = elim (ℕ-discrete (e 5 % 729) 0) [ yes z ↦ chained-none z i h | no n ↦ chained-some n i h ]
 
--- A MESSAGE NEAR THE CARD is the one computed
-module _ (k : ℕ) (p : 1 ≤ k) (q : k ≤ 4) (c : List ℕ) (card : is-card c ≡ true) (m : List ℕ) (near : Near k c m) (R : Ratio (errors k c m)) where
-  five : k ≤ 5
-  five = omega arith
-
-  pub near-entry : (u : ℕ) → u ≡ errors k c m 4 → (i : ℕ) → i < 5 → minus (spectrum c i) (chain u (spectrum c 5) i) ≡ at (coefficients k m) i
-  near-entry u eu i h =
-      rw (eu, ← errors-beyond k p five c card m 5 (omega arith)) (
-      ap (minus (spectrum c i)) (chained (errors k c m) R i h) ∙ minus-rest (spectrum c i) (errors k c m i) ∙ given-back k p five c card m i)
-
-  pub near-single : (u : ℕ) → u ≡ errors k c m 4 → single k (spectrum c) u ≡ m
-  unfolding single at
-  near-single u eu =
-      ap read (table-same (suc k) _ (at (coefficients k m)) (λ i h. near-entry u eu i (omega arith)) ∙ rw (← length-coefficients k p m) (table-at (coefficients k m)))
-      ∙ read-coefficients k p five m (near .message)
-
--- so where the key is 0, for k = 1 and 2
-pub near-key : (k : ℕ) → 1 ≤ k → k ≤ 2 → (c : List ℕ) → is-card c ≡ true → (m : List ℕ) → Near k c m → key (spectrum c) ≡ 0
-    → single k (spectrum c) (spectrum c 4) ≡ m
+-- WHERE THE KEY IS 0, for k = 1 and 2
+pub key-ratio : (k : ℕ) → 1 ≤ k → k ≤ 2 → (c : List ℕ) → is-card c ≡ true → (m : List ℕ) → Near k c m → key (spectrum c) ≡ 0 → Ratio (errors k c m)
 unfolding key
-near-key k p q c card m near none =
-    near-single k p (omega arith) c card m near (ratio-of-key (errors k c m) (near-annihilated k p five c card m near) same) (spectrum c 4) (sym (beyond 4 (omega arith)))
+key-ratio k p q c card m near none = ratio-of-key (errors k c m) (near-annihilated k p five c card m near) same
   where
     five : k ≤ 5
     five = omega arith

@@ -30,7 +30,7 @@ pub record Shape (k : ℕ) (c : List ℕ) : Type 0 where
 unfoldable pub message-of : (k : ℕ) → (card : List ℕ) → List ℕ
 message-of k c = read (table (suc k) (spectrum c))
 
-at-last : (k : ℕ) → 1 ≤ k → k ≤ 5 → (m : List ℕ) → at (coefficients k m) k ≡ times gamma (small (at m (2 * k - 1)))
+pub at-last : (k : ℕ) → 1 ≤ k → k ≤ 5 → (m : List ℕ) → at (coefficients k m) k ≡ times gamma (small (at m (2 * k - 1)))
 unfolding at coefficients higher inners
 at-last = one-to-five _ (λ m. refl) (λ m. refl) (λ m. refl) (λ m. refl) (λ m. refl)
 

@@ -9,7 +9,7 @@ use mathlib.Core.List.{List, [], _∷_}
 use mathlib.Core.Option.{none, some}
 use Prim.Native.Nat.{ℕ, _%_, _≤_, _<_}
 use native.Mathlib.Omega.{arith}
-use lib.Dec.{lit≤, lit<}
+use lib.Dec.{lit≤}
 use borrow.Author.Tests.{eq-eqb, ne-eqb}
 use Rattle.algebra.specs.Field.{add, minus, times, cube, small}
 use Rattle.algebra.specs.Lists.{table}
@@ -25,12 +25,11 @@ use Rattle.coding.specs.Options.{first-of}
 use Rattle.coding.specs.Decode.{if-near, decode}
 use Rattle.coding.specs.Spectrum.{spectrum}
 use Rattle.coding.specs.Algebraic.{det, numerator, key, ninth, middle, first-error, proposed}
-use Rattle.coding.specs.RankOne.{single}
+use Rattle.coding.specs.Closed.{if-closed}
 use Rattle.coding.specs.DecodeTwo.{attempt, decode-two, two-is-decode}
 use Rattle.coding.specs.DecodeOne.{minor, lead, mean, solved, zeroth, first, double, decode-one, one-is-decode}
 use Rattle.candidate.specs.Finding.{first-at, first-all}
-use Rattle.candidate.specs.Places.{spectrum-at}
-use Rattle.decoder.specs.Singles.{single-spectrum}
+use Rattle.decoder.specs.Singles.{closed-last}
 use Rattle.decoder.specs.declared.one.Annihilator.{Annihilator}
 use Rattle.decoder.specs.declared.two.Shared.{Shared}
 
@@ -56,23 +55,22 @@ pub double-message : (r : ℕ → ℕ) → is-message 1 (double r) ≡ true
 unfolding double
 double-message r = parts-message _ _ (zeroth r) (first r) refl refl
 
-module _ (c : List ℕ) (card : is-card c ≡ true) (r : List ℕ) (e : r ≡ table 6 (spectrum c)) (k : ℕ) (ek : k ≡ lead (at r)) where
-  lead-is : lead (at r) ≡ lead (spectrum c)
-  unfolding lead at table
-  lead-is = ap (λ (x : List ℕ). lead (at x)) e
+module _ (c : List ℕ) (card : is-card c ≡ true) (r : List ℕ) (e : r ≡ table 6 (spectrum c)) (k : ℕ) (ek : k ≡ minor (at r)) where
+  minor-is : minor (at r) ≡ minor (spectrum c)
+  unfolding minor at table
+  minor-is = ap (λ (x : List ℕ). minor (at x)) e
 
   double-spectrum : double (at r) ≡ double (spectrum c)
   unfolding double zeroth first solved lead mean minor at table
   double-spectrum = ap (λ (x : List ℕ). double (at x)) e
 
-  pub one-single : k ≡ 0 → (m : List ℕ) → m ≡ single 1 (at r) (at r 4) → if-near 1 c m ≡ decode 1 c
+  pub one-single : k ≡ 0 → if-closed 1 (at r) (at r 4) ≡ decode 1 c
   unfolding decode-one
-  one-single z m h =
-      rw (h ∙ single-spectrum c r e 1 (lit≤ tt) (at r 4), spectrum-at c r e 4 (lit< tt)) (sym (rw (sym lead-is ∙ sym ek ∙ z)) ∙ one-is-decode c card)
+  one-single z = closed-last c r e 1 (lit≤ tt) ∙ sym (rw (sym minor-is ∙ sym ek ∙ z)) ∙ one-is-decode c card
 
   pub one-double : k ≢ 0 → (m : List ℕ) → m ≡ double (at r) → if-near 1 c m ≡ decode 1 c
   unfolding decode-one
-  one-double n m h = rw (h ∙ double-spectrum) (sym (rw (ne-eqb (lead (spectrum c)) 0 (λ z. n (ek ∙ lead-is ∙ z)))) ∙ one-is-decode c card)
+  one-double n m h = rw (h ∙ double-spectrum) (sym (rw (ne-eqb (minor (spectrum c)) 0 (λ z. n (ek ∙ minor-is ∙ z)))) ∙ one-is-decode c card)
 
 -- k = 2: THE CONSTANTS of a spectrum, as if the message's first symbol was 0, and what it is multiplied by
 pub record Prepared (r : ℕ → ℕ) (s : Shared) : Type 0 where
@@ -180,10 +178,9 @@ module _ (c : List ℕ) (card : is-card c ≡ true) (r : List ℕ) (e : r ≡ ta
   unfolding key at table
   key-is = ap (λ (x : List ℕ). key (at x)) e
 
-  pub two-single : k ≡ 0 → (m : List ℕ) → m ≡ single 2 (at r) (at r 4) → if-near 2 c m ≡ decode 2 c
+  pub two-single : k ≡ 0 → if-closed 2 (at r) (at r 4) ≡ decode 2 c
   unfolding decode-two
-  two-single z m h =
-      rw (h ∙ single-spectrum c r e 2 (lit≤ tt) (at r 4), spectrum-at c r e 4 (lit< tt)) (sym (rw (sym key-is ∙ sym ek ∙ z)) ∙ two-is-decode c card)
+  two-single z = closed-last c r e 2 (lit≤ tt) ∙ sym (rw (sym key-is ∙ sym ek ∙ z)) ∙ two-is-decode c card
 
   module _ (n : k ≢ 0) where
     two-first : first-of 27 (attempt c) ≡ decode 2 c

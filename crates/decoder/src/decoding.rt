@@ -11,8 +11,8 @@ ghost use Rattle.coding.specs.Decode.{decode};
 ghost use Rattle.codec.specs.Answers.{Decoded};
 ghost use Rattle.candidate.specs.Finding.{answer, Whole};
 use crate::one::decode_one;
-use crate::single::decode_four;
-use crate::single::decode_three;
+use crate::single::find_four;
+use crate::single::find_single;
 use crate::two::decode_two;
 use candidate::Found;
 use candidate::clean;
@@ -36,9 +36,9 @@ fn decode_damaged(k: usize, card: [u16; 6], r: [u16; 6]) -> Found
         return decode_two(card, r, &logs, &powers);
     }
     if k == 3 {
-        return decode_three(card, r, &logs, &powers);
+        return find_single(3, r, r[4], &logs, &powers);
     }
-    decode_four(card, r, &logs, &powers)
+    find_four(r, &logs, &powers)
 }
 
 // The message near a card, if there is one.

@@ -12,7 +12,7 @@ ghost use Rattle.coding.specs.DecodeOne.{lead, mean, minor, double};
 ghost use Rattle.coding.specs.Decode.{decode};
 ghost use Rattle.candidate.specs.Finding.{answer, Whole};
 ghost use Rattle.decoder.specs.Doubles.{Annihilates};
-use crate::single::single;
+use crate::single::find_single;
 use candidate::Found;
 use candidate::near;
 use candidate::nothing;
@@ -24,7 +24,19 @@ pub struct Annihilator {
     pub minor: u16,
 }
 
-// The lowest coefficient: it is 0 where the error has rank 1 or none.
+// The determinant: it is 0 where the error has rank 1 or none.
+fn minor_of(r: [u16; 6], logs: &[u16; 729], powers: &[u16; 728]) -> u16
+    requires { ⌜ Tables (now logs) (now powers) ⌝ }
+    ensures { λ v. ⌜ v ≡ minor (at r) ⌝ }
+{
+    let c3 = field::cube_with(r[3], logs, powers);
+    let c4 = field::cube_with(r[4], logs, powers);
+    field::difference(
+        field::product_with(c3, r[5], logs, powers),
+        field::product_with(r[4], c4, logs, powers),
+    )
+}
+
 fn lead_of(r: [u16; 6], logs: &[u16; 729], powers: &[u16; 728]) -> u16
     requires { ⌜ Tables (now logs) (now powers) ⌝ }
     ensures { λ v. ⌜ v ≡ lead (at r) ⌝ }
@@ -51,26 +63,14 @@ fn mean_of(r: [u16; 6], logs: &[u16; 729], powers: &[u16; 728]) -> u16
     )
 }
 
-fn minor_of(r: [u16; 6], logs: &[u16; 729], powers: &[u16; 728]) -> u16
-    requires { ⌜ Tables (now logs) (now powers) ⌝ }
-    ensures { λ v. ⌜ v ≡ minor (at r) ⌝ }
-{
-    let c3 = field::cube_with(r[3], logs, powers);
-    let c4 = field::cube_with(r[4], logs, powers);
-    field::difference(
-        field::product_with(c3, r[5], logs, powers),
-        field::product_with(r[4], c4, logs, powers),
-    )
-}
-
 fn annihilator_of(r: [u16; 6], known: u16, logs: &[u16; 729], powers: &[u16; 728]) -> Annihilator
-    requires { ⌜ (known ≡ lead (at r)) × Tables (now logs) (now powers) ⌝ }
+    requires { ⌜ (known ≡ minor (at r)) × Tables (now logs) (now powers) ⌝ }
     ensures { λ a. ⌜ Annihilates (at r) a ⌝ }
 {
     Annihilator {
-        inverse: field::inverse_with(known, logs, powers),
+        inverse: field::inverse_with(lead_of(r, logs, powers), logs, powers),
         mean: mean_of(r, logs, powers),
-        minor: minor_of(r, logs, powers),
+        minor: known,
     }
 }
 
@@ -103,11 +103,11 @@ fn decode_spectrum(card: [u16; 6], r: [u16; 6], logs: &[u16; 729], powers: &[u16
     requires { ⌜ (is-card card ≡ true) × (r ≡ table 6 (spectrum card)) × Tables (now logs) (now powers) ⌝ }
     ensures { λ f. ⌜ (answer 1 f ≡ decode 1 card) × Whole 1 card f ⌝ }
 {
-    let lead = lead_of(r, logs, powers);
-    if lead == 0 {
-        return near(card, 1, single(1, r, r[4], logs, powers));
+    let minor = minor_of(r, logs, powers);
+    if minor == 0 {
+        return find_single(1, r, r[4], logs, powers);
     }
-    let a = annihilator_of(r, lead, logs, powers);
+    let a = annihilator_of(r, minor, logs, powers);
     near(card, 1, double(r, a, logs, powers))
 }
 

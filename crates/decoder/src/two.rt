@@ -14,7 +14,7 @@ ghost use Rattle.coding.specs.Decode.{decode};
 ghost use Rattle.coding.specs.DecodeTwo.{attempt};
 ghost use Rattle.candidate.specs.Finding.{answer, Whole};
 ghost use Rattle.decoder.specs.Doubles.{Prepared};
-use crate::single::single;
+use crate::single::find_single;
 use candidate::Found;
 use candidate::near;
 use candidate::nothing;
@@ -190,7 +190,7 @@ pub(crate) fn decode_two(
 {
     let key = key_of(r, logs, powers);
     if key == 0 {
-        return near(card, 2, single(2, r, r[4], logs, powers));
+        return find_single(2, r, r[4], logs, powers);
     }
     let s = prepare(r, key, logs, powers);
     let mut a: u16 = 0;

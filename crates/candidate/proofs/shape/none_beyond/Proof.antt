@@ -10,7 +10,7 @@ use Rattle.candidate.proofs.shape.none_beyond.Statement.{statement}
 use Rattle.candidate.proofs.shape.none_beyond.Tie as tie
 
 abbrev Inv-loop : tie.InvT-loop
-Inv-loop k r i₀ i = (k + 1 ≤ i) × (i ≤ 6) × From i r (5 - k) (suc k)
+Inv-loop k r i₀ i = (k + 1 ≤ i) × (i ≤ 6) × From i (at r) (5 - k) (suc k)
 
 abbrev μ-loop : tie.MeasureT-loop
 μ-loop k r i₀ i = 6 - i
@@ -29,7 +29,7 @@ array-read-if1 c = search needs
 
 returns : tie.Need-returns Inv-loop μ-loop
 unfolding at
-returns c = from-some _ _ _ (c .before .before .before .args .t2) (c .before .loop-test .taken) (c .before .before .loop .inv .2) (c .if1 .taken)
+returns c = from-some _ _ _ (at (c .before .before .before .args .t2)) (c .before .loop-test .taken) (c .before .before .loop .inv .2) (c .if1 .taken)
 
 add-i-2 : tie.Need-add-i-2 Inv-loop μ-loop
 add-i-2 c = search needs
@@ -39,10 +39,10 @@ loop-less c = omega arith
 
 loop-again : tie.Need-loop-again Inv-loop μ-loop
 unfolding at
-loop-again c = (omega arith, omega arith, from-next _ _ _ (c .before .before .before .args .t2) (c .before .loop-test .taken) (c .before .before .loop .inv .2) (c .if1 .left))
+loop-again c = (omega arith, omega arith, from-next _ _ _ (at (c .before .before .before .args .t2)) (c .before .loop-test .taken) (c .before .before .loop .inv .2) (c .if1 .left))
 
 returns-2 : tie.Need-returns-2 Inv-loop μ-loop
-returns-2 c = from-end _ _ _ (c .before .before .args .t2) (c .loop-test .left) (c .before .loop .inv .2)
+returns-2 c = from-end _ _ _ (at (c .before .before .args .t2)) (c .loop-test .left) (c .before .loop .inv .2)
 
 pub none-beyond-spec : {M : Type 1} → statement M
 none-beyond-spec = tie.close (tie.spec Inv-loop μ-loop add-i loop-holds mul-if1 array-read-if1 returns add-i-2 loop-less loop-again returns-2)

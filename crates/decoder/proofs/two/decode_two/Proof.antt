@@ -9,7 +9,7 @@ use Rattle.rank.specs.Definitions.{at}
 use Rattle.coding.specs.Options.{first-of}
 use Rattle.coding.specs.DecodeTwo.{attempt}
 use Rattle.candidate.specs.Finding.{answer-some, answer-none, whole-none, first-none, first-next}
-use Rattle.decoder.specs.Singles.{single-message}
+use Rattle.decoder.specs.Singles.{spectrum-card}
 use Rattle.decoder.specs.Doubles.{prepared-of, two-single, two-found, two-none}
 use Rattle.decoder.proofs.two.decode_two.Statement.{statement}
 use Rattle.decoder.proofs.two.decode_two.Tie as tie
@@ -20,17 +20,16 @@ Inv-loop card logs powers k s a₀ a = (a ≤ 27) × (first-of a (attempt card) 
 abbrev μ-loop : tie.MeasureT-loop
 μ-loop card logs powers k s a₀ a = 27 - a
 
-near-requires : tie.Need-near-requires Inv-loop μ-loop
-near-requires c κs = (lit≤ tt, lit≤ tt, rw (c .single .ensures) (single-message 2 (lit≤ tt) (at _) _))
+find-single-requires : tie.Need-find-single-requires Inv-loop μ-loop
+find-single-requires c κs = let s = c .before .before in (lit≤ tt, lit≤ tt, spectrum-card (s .args .card) (s .args .t2) (s .pre .1), s .pre .2)
 
 returns : tie.Need-returns Inv-loop μ-loop
 unfolding at
 returns c =
-    let k = c .before .before .before in
+    let k = c .before .before in
     let s = k .before in (
-      c .near .ensures .0
-          ∙ two-single (s .args .card) (s .pre .0) (s .args .t2) (s .pre .1) _ (k .key-of .ensures) (c .before .before .if1 .taken) _ (c .before .single .ensures),
-      c .near .ensures .1,
+      c .find-single .ensures .0 ∙ two-single (s .args .card) (s .pre .0) (s .args .t2) (s .pre .1) _ (k .key-of .ensures) (c .before .if1 .taken),
+      c .find-single .ensures .1 (s .args .card) (s .pre .0) (s .pre .1),
     )
 
 loop-holds : tie.Need-loop-holds Inv-loop μ-loop
@@ -81,8 +80,7 @@ decode-two-spec =
     μ-loop
     (λ c κs. search needs)
     (λ c. search needs)
-    (λ c κs. search needs)
-    near-requires
+    find-single-requires
     returns
     (λ c κs. search needs)
     loop-holds
