@@ -29,11 +29,9 @@ fn minor_of(r: [u16; 6], logs: &[u16; 729], powers: &[u16; 728]) -> u16
     requires { ⌜ Tables (now logs) (now powers) ⌝ }
     ensures { λ v. ⌜ v ≡ minor (at r) ⌝ }
 {
-    let c3 = field::cube_with(r[3], logs, powers);
-    let c4 = field::cube_with(r[4], logs, powers);
     field::difference(
-        field::product_with(c3, r[5], logs, powers),
-        field::product_with(r[4], c4, logs, powers),
+        field::cube_product_with(r[5], r[3], logs, powers),
+        field::cube_product_with(r[4], r[4], logs, powers),
     )
 }
 
@@ -41,13 +39,11 @@ fn lead_of(r: [u16; 6], logs: &[u16; 729], powers: &[u16; 728]) -> u16
     requires { ⌜ Tables (now logs) (now powers) ⌝ }
     ensures { λ v. ⌜ v ≡ lead (at r) ⌝ }
 {
-    let c3 = field::cube_with(r[3], logs, powers);
-    let c4 = field::cube_with(r[4], logs, powers);
     let b2 = field::cube_with(field::cube_with(r[2], logs, powers), logs, powers);
-    let b3 = field::cube_with(c3, logs, powers);
+    let b3 = field::cube_with(field::cube_with(r[3], logs, powers), logs, powers);
     field::difference(
-        field::product_with(b2, c4, logs, powers),
-        field::product_with(b3, c3, logs, powers),
+        field::cube_product_with(b2, r[4], logs, powers),
+        field::cube_product_with(b3, r[3], logs, powers),
     )
 }
 
@@ -82,7 +78,7 @@ fn solved(a: Annihilator, f: u16, x: u16, y: u16, logs: &[u16; 729], powers: &[u
     let b = field::cube_with(field::cube_with(x, logs, powers), logs, powers);
     let t = field::sum(
         field::product_with(b, a.minor, logs, powers),
-        field::product_with(a.mean, field::cube_with(y, logs, powers), logs, powers),
+        field::cube_product_with(a.mean, y, logs, powers),
     );
     field::sum(f, field::product_with(a.inverse, t, logs, powers))
 }

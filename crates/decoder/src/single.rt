@@ -35,13 +35,6 @@ fn ratio(u: u16, v: u16, logs: &[u16; 729], powers: &[u16; 728]) -> u16
     )
 }
 
-fn next_error(ratio: u16, x: u16, logs: &[u16; 729], powers: &[u16; 728]) -> u16
-    requires { ⌜ Tables (now logs) (now powers) ⌝ }
-    ensures { λ v. ⌜ v ≡ times ratio (cube x) ⌝ }
-{
-    field::product_with(ratio, field::cube_with(x, logs, powers), logs, powers)
-}
-
 // The coefficients of an error whose last is v and the one before it u.
 fn chain_of(u: u16, v: u16, logs: &[u16; 729], powers: &[u16; 728]) -> [u16; 6]
     requires { ⌜ Tables (now logs) (now powers) ⌝ }
@@ -52,7 +45,7 @@ fn chain_of(u: u16, v: u16, logs: &[u16; 729], powers: &[u16; 728]) -> [u16; 6]
     let mut e = v;
     let mut i = 0;
     while i < 6 {
-        e = next_error(q, e, logs, powers);
+        e = field::cube_product_with(q, e, logs, powers);
         f[i] = e;
         i += 1;
     }
@@ -158,7 +151,7 @@ fn first_coefficient(r: [u16; 6], u: u16, logs: &[u16; 729], powers: &[u16; 728]
 {
     field::difference(
         r[0],
-        next_error(ratio(u, r[5], logs, powers), r[5], logs, powers),
+        field::cube_product_with(ratio(u, r[5], logs, powers), r[5], logs, powers),
     )
 }
 

@@ -44,12 +44,11 @@ fn key_of(r: [u16; 6], logs: &[u16; 729], powers: &[u16; 728]) -> u16
     requires { ⌜ Tables (now logs) (now powers) ⌝ }
     ensures { λ v. ⌜ v ≡ key (at r) ⌝ }
 {
-    let a = field::cube_with(field::cube_with(r[3], logs, powers), logs, powers);
-    let b = field::cube_with(r[4], logs, powers);
-    let c = field::cube_with(b, logs, powers);
+    let b3 = field::cube_with(field::cube_with(r[3], logs, powers), logs, powers);
+    let b4 = field::cube_with(field::cube_with(r[4], logs, powers), logs, powers);
     field::difference(
-        field::product_with(a, field::cube_with(r[5], logs, powers), logs, powers),
-        field::product_with(c, b, logs, powers),
+        field::cube_product_with(b3, r[5], logs, powers),
+        field::cube_product_with(b4, r[4], logs, powers),
     )
 }
 
@@ -59,10 +58,9 @@ fn det_of(r: [u16; 6], logs: &[u16; 729], powers: &[u16; 728]) -> u16
     ensures { λ v. ⌜ v ≡ det (at r) (at r 0) ⌝ }
 {
     let c4 = field::cube_with(r[4], logs, powers);
-    let c5 = field::cube_with(r[5], logs, powers);
     field::difference(
         field::product_with(c4, r[0], logs, powers),
-        field::product_with(r[5], c5, logs, powers),
+        field::cube_product_with(r[5], r[5], logs, powers),
     )
 }
 
@@ -82,8 +80,7 @@ fn over_of(r: [u16; 6], num: u16, key: u16, logs: &[u16; 729], powers: &[u16; 72
     requires { ⌜ Tables (now logs) (now powers) ⌝ }
     ensures { λ v. ⌜ v ≡ add (times num (times 684 (cube (at r 3)))) (times 684 (times key (at r 4))) ⌝ }
 {
-    let c3 = field::cube_with(r[3], logs, powers);
-    let third = field::product_with(GAMMA_BACK, c3, logs, powers);
+    let third = field::cube_product_with(GAMMA_BACK, r[3], logs, powers);
     let fourth = field::product_with(key, r[4], logs, powers);
     field::sum(
         field::product_with(num, third, logs, powers),
@@ -95,17 +92,21 @@ fn over_factor(r: [u16; 6], logs: &[u16; 729], powers: &[u16; 728]) -> u16
     requires { ⌜ Tables (now logs) (now powers) ⌝ }
     ensures { λ v. ⌜ v ≡ times (cube (cube (at r 3))) (times 684 (cube (at r 3))) ⌝ }
 {
-    let c3 = field::cube_with(r[3], logs, powers);
-    let third = field::product_with(GAMMA_BACK, c3, logs, powers);
-    field::product_with(field::cube_with(c3, logs, powers), third, logs, powers)
+    let b3 = field::cube_with(field::cube_with(r[3], logs, powers), logs, powers);
+    let third = field::cube_product_with(GAMMA_BACK, r[3], logs, powers);
+    field::product_with(b3, third, logs, powers)
 }
 
 fn top_of(r: [u16; 6], logs: &[u16; 729], powers: &[u16; 728]) -> u16
     requires { ⌜ Tables (now logs) (now powers) ⌝ }
     ensures { λ v. ⌜ v ≡ times 684 (cube (cube (at r 2))) ⌝ }
 {
-    let b2 = field::cube_with(field::cube_with(r[2], logs, powers), logs, powers);
-    field::product_with(GAMMA_BACK, b2, logs, powers)
+    field::cube_product_with(
+        GAMMA_BACK,
+        field::cube_with(r[2], logs, powers),
+        logs,
+        powers,
+    )
 }
 
 fn prepare(r: [u16; 6], known: u16, logs: &[u16; 729], powers: &[u16; 728]) -> Shared
@@ -148,10 +149,10 @@ fn middle(s: Shared, x: u16, d: u16, logs: &[u16; 729], powers: &[u16; 728]) -> 
     ensures { λ v. ⌜ v ≡ add (s .first) (times (inverse (s .key)) (add (times (s .ninth) d) (times (add (s .num0) (times (s .num1) x)) (cube (minus (s .zeroth) x))))) ⌝ }
 {
     let n = field::sum(s.num0, field::product_with(s.num1, x, logs, powers));
-    let c = field::cube_with(field::difference(s.zeroth, x), logs, powers);
+    let e = field::difference(s.zeroth, x);
     let t = field::sum(
         field::product_with(s.ninth, d, logs, powers),
-        field::product_with(n, c, logs, powers),
+        field::cube_product_with(n, e, logs, powers),
     );
     let i = field::inverse_with(s.key, logs, powers);
     field::sum(s.first, field::product_with(i, t, logs, powers))

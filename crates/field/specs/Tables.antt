@@ -1,6 +1,6 @@
 -- The tables that products and inverses read, and what they read there. Assumes nothing.
--- Main: Tables, log-small, logs-small, product-near, product-round, cube-read, inverse-one, inverse-back.
-use mathlib.Core.Path.{_≡_, sym, ap, _∙_}
+-- Main: Tables, log-small, logs-small, product-near, product-round, cube-read, cube-product-read, inverse-one, inverse-back.
+use mathlib.Core.Path.{_≡_, sym, ap, ap₂, _∙_}
 use mathlib.Core.List.{List}
 use Prim.Native.Nat.{ℕ, zero, suc, _+_, _*_, _-_, _/_, _%_, _≤_, _<_}
 use native.Mathlib.Nat.{mod-lt, mod-mod}
@@ -69,12 +69,10 @@ module _ {l p : List ℕ} (t : Tables l p) where
         power-read _ (omega (arith, log-small a, log-small b)) ∙ sym (power-round _) ∙ ap (power 3) (omega arith) ∙ by-logs
 
   -- CUBES: the exponent is taken three times
-  pub cube-read : (a : ℕ) → ¬ Zero a → getD p (3 * exponent l a % 728) 0 ≡ cube a
+  cube-by-log : (a : ℕ) → ¬ Zero a → power 3 (3 * exponent l a) ≡ cube a
   unfolding cube
-  cube-read a n =
-      power-read _ (mod-lt (3 * exponent l a) (lit< tt))
-      ∙ power-rest (3 * exponent l a)
-      ∙ ap (λ (k : ℕ). power 3 (3 * k)) (log-read a)
+  cube-by-log a n =
+      ap (λ (k : ℕ). power 3 (3 * k)) (log-read a)
       ∙ ap (power 3) thrice
       ∙ sym (ap (times (power 3 (log a))) (power-plus (log a) (log a)) ∙ power-plus (log a) (log a + log a))
       ∙ ap cube (power-log a n)
@@ -82,6 +80,18 @@ module _ {l p : List ℕ} (t : Tables l p) where
     where
       thrice : 3 * log a ≡ log a + (log a + log a)
       thrice = omega arith
+
+  pub cube-read : (a : ℕ) → ¬ Zero a → getD p (3 * exponent l a % 728) 0 ≡ cube a
+  cube-read a n = power-read _ (mod-lt (3 * exponent l a) (lit< tt)) ∙ power-rest (3 * exponent l a) ∙ cube-by-log a n
+
+  -- and added to that of another factor
+  pub cube-product-read : (a b : ℕ) → ¬ Zero a → ¬ Zero b → getD p ((exponent l a + 3 * exponent l b) % 728) 0 ≡ times a (cube b)
+  cube-product-read a b n m =
+      power-read _ (mod-lt (exponent l a + 3 * exponent l b) (lit< tt))
+      ∙ power-rest (exponent l a + 3 * exponent l b)
+      ∙ sym (power-plus (exponent l a) (3 * exponent l b))
+      ∙ ap₂ times (ap (power 3) (log-read a) ∙ power-log a n) (cube-by-log b m)
+      ∙ rest-times a (cube b)
 
   -- INVERSES: the exponent is taken from 728
   module _ (a : ℕ) (n : ¬ Zero a) where

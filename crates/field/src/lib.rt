@@ -8,6 +8,7 @@ mod tables;
 
 pub use cubes::cube;
 pub use cubes::risen;
+pub use products::cube_product_with;
 pub use products::cube_with;
 pub use products::inverse;
 pub use products::inverse_with;

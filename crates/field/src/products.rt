@@ -50,6 +50,23 @@ pub fn cube_with(a: u16, logs: &[u16; 729], powers: &[u16; 728]) -> u16
     powers[k]
 }
 
+// a times the cube of b, by one sum of exponents.
+pub fn cube_product_with(a: u16, b: u16, logs: &[u16; 729], powers: &[u16; 728]) -> u16
+    requires { ⌜ Tables (now logs) (now powers) ⌝ }
+    ensures { λ r. ⌜ r ≡ times a (cube b) ⌝ }
+{
+    let x = (a % 729) as usize;
+    let y = (b % 729) as usize;
+    if x == 0 {
+        return 0;
+    }
+    if y == 0 {
+        return 0;
+    }
+    let k = ((logs[x] as usize) + 3 * (logs[y] as usize)) % 728;
+    powers[k]
+}
+
 // The exponent of the inverse of z^k is 728 - k, and that of 1 is 0.
 pub fn inverse_with(a: u16, logs: &[u16; 729], powers: &[u16; 728]) -> u16
     requires { ⌜ Tables (now logs) (now powers) ⌝ }

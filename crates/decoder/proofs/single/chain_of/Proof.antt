@@ -25,7 +25,7 @@ loop-again : tie.Need-loop-again Inv-loop μ-loop
 loop-again c =
     let l = c .before .before in
     let s = l .before .before in
-    let next = before-next (s .args .u) (s .args .v) (l .loop .i) _ _ _ (l .before .ratio .ensures) (l .loop .inv .2) (c .next-error .ensures) in (
+    let next = before-next (s .args .u) (s .args .v) (l .loop .i) _ _ _ (l .before .ratio .ensures) (l .loop .inv .2) (c .cube-product-with .ensures) in (
       omega arith,
       simp length-set (l .loop .inv .1),
       next,

@@ -1,0 +1,41 @@
+-- `field::cube_product_with` meets its contract: one exponent and three times the other come round after 728. Assumes nothing.
+use mathlib.Core.Path.{sym, ap, _∙_}
+use native.Mathlib.Omega.{arith}
+use borrow.Author.Needs.{needs}
+use Rattle.algebra.specs.Field.{times, cube}
+use Rattle.algebra.specs.Products.{times-zero}
+use Rattle.field.specs.Tables.{zero-left, zero-cube, logs-small, cube-product-read}
+use Rattle.field.proofs.products.cube_product_with.Statement.{statement}
+use Rattle.field.proofs.products.cube_product_with.Tie as tie
+
+returns : tie.Need-returns
+returns c = let s = c .before in zero-left (s .args .a) (cube (s .args .b)) (c .if1 .taken)
+
+returns-2 : tie.Need-returns-2
+returns-2 c = let s = c .before .before in sym (times-zero (s .args .a)) ∙ ap (times (s .args .a)) (zero-cube (s .args .b) (c .if2 .taken))
+
+returns-3 : tie.Need-returns-3
+returns-3 c =
+    let k = c .before .before .before in
+    let s = k .before .before in
+    cube-product-read (s .pre) (s .args .a) (s .args .b) (k .before .if1 .left) (k .if2 .left)
+
+pub cube-product-with-spec : {M : Type 1} → statement M
+cube-product-with-spec =
+    tie.close
+    (tie.spec
+    (λ c. search needs)
+    (λ c. search needs)
+    returns
+    returns-2
+    (λ c. search needs)
+    (λ c. search needs)
+    (λ c. let s = c .before .before .before in omega (arith, logs-small (s .pre) (s .args .a) (s .args .b)))
+    (λ c. search needs)
+    (λ c. search needs)
+    (λ c. let s = c .before .before .before .before in omega (arith, logs-small (s .pre) (s .args .a) (s .args .b)))
+    (λ c. let s = c .before .before .before .before in omega (arith, logs-small (s .pre) (s .args .a) (s .args .b)))
+    (λ c. let s = c .before .before .before .before in omega (arith, logs-small (s .pre) (s .args .a) (s .args .b)))
+    (λ c. search needs)
+    (λ c. search needs)
+    returns-3)
