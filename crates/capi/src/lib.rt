@@ -1,5 +1,5 @@
 // The C interface (include/lucetcoral.h): numbers and lists only, thin over the library. Each function returns 0 when done, or the refusal's
-// number; a refusal changes nothing that is lent.
+// number; a refusal changes nothing that is lent. Assumes nothing.
 ghost use mathlib.Core.Path.{_≡_};
 ghost use Rattle.refusal.specs.Answers.{told};
 ghost use Rattle.rank.specs.Definitions.{rank};

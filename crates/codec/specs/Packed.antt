@@ -1,9 +1,10 @@
 -- Packed digits as the code takes them: each digit is a quotient less three times the next one. And the numbers of a message. Assumes nothing.
--- Main: digits-are, digits-small, three-digits-are, three-small, three-digits-small, number-below.
-use mathlib.Core.Path.{_≡_, refl, sym, ap}
+-- Main: digits-are, digits-small, three-digits-are, three-small, three-digits-small, Gathered, gathered-none, gathered-next, gathered-fits,
+-- number-below.
+use mathlib.Core.Path.{_≡_, refl, ap}
 use mathlib.Core.Bool.{true}
 use mathlib.Core.List.{List, [], _∷_}
-use Prim.Native.Nat.{ℕ, zero, suc, _*_, _-_, _/_, _%_, _≤_, _<_}
+use Prim.Native.Nat.{ℕ, zero, suc, _+_, _*_, _-_, _/_, _%_, _≤_, _<_}
 use native.Mathlib.Omega.{arith}
 use lib.ListN.{getD, take}
 use lib.Seq.{getD-take}
@@ -12,7 +13,8 @@ use Rattle.algebra.specs.Lists.{cons, all-at}
 use Rattle.algebra.specs.Tests.{passed}
 use Rattle.algebra.specs.Digits.{digit-below}
 use Rattle.coding.specs.Code.{is-message}
-use Rattle.coding.specs.Packed.{three-digits}
+use Rattle.field.specs.Sums.{zeros}
+use Rattle.coding.specs.Packed.{three-digits, gather, rows, after, after-next}
 
 less : (a : ℕ) → a - 3 * (a / 3) ≡ a % 3
 less a = omega arith
@@ -40,6 +42,23 @@ three-small x y z p q r (suc (suc (suc t))) = omega arith
 pub three-digits-small : (d : List ℕ) (x : ℕ) → x < 27 → d ≡ three-digits x → (t : ℕ) → getD d t 0 ≤ 2
 unfolding three-digits
 three-digits-small d x h e = rw e (three-small _ _ _ (omega arith) (omega arith) (omega arith))
+
+-- THE COUNTS of the first n numbers, and that they are far from the end of a u64
+pub record Gathered (f : (s j : ℕ) → ℕ → ℕ) (xs : List ℕ) (n : ℕ) (a : List ℕ) : Type 0 where
+  pub same : a ≡ after f xs n
+  pub bound : (w : ℕ) → getD a w 0 ≤ n * 1800000000000000000
+
+module _ {f : (s j : ℕ) → ℕ → ℕ} {xs : List ℕ} where
+  pub gathered-none : Gathered f xs 0 (0 ∷ 0 ∷ 0 ∷ 0 ∷ [])
+  unfolding after
+  gathered-none = record { same = refl; bound = λ w. omega (arith, zeros 4 w) }
+
+  pub gathered-next : (n : ℕ) {a b d : List ℕ} {r : List (List ℕ)} → Gathered f xs n a → d ≡ digits (getD xs n 0) → r ≡ rows (f n) → b ≡ gather a d r
+      → ((w : ℕ) → getD b w 0 ≤ getD a w 0 + 1800000000000000000) → Gathered f xs (suc n) b
+  gathered-next n g ed er eb h = record { same = after-next f xs n _ _ _ _ (g .same) ed er eb; bound = λ w. omega (arith, g .bound w, h w) }
+
+  pub gathered-fits : (n : ℕ) {a : List ℕ} → Gathered f xs n a → n ≤ 5 → (w : ℕ) → getD a w 0 ≤ 9000000000000000000
+  gathered-fits n g h w = omega (arith, g .bound w)
 
 -- A NUMBER OF A MESSAGE is below 27
 pub number-below : (k : ℕ) (m : List ℕ) → is-message k (take (2 * k) m) ≡ true → (i : ℕ) → i < 2 * k → getD m i 0 < 27

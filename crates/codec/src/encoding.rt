@@ -1,5 +1,5 @@
 // Encoding (document 01: Press): the word of a message is the values of its polynomial at 1, z, .. z^5, a coefficient at a time. It is linear
-// in the digits of the message.
+// in the digits of the message. Assumes nothing.
 ghost use mathlib.Core.Path.{_≡_};
 ghost use mathlib.Core.Bool.{true};
 ghost use mathlib.Core.List.{[], _∷_};

@@ -1,4 +1,4 @@
-// Lists lent by a caller: taken into an array, and filled from one.
+// Lists lent by a caller: taken into an array, and filled from one. Assumes nothing.
 ghost use mathlib.Core.Path.{_≡_};
 ghost use Prim.Native.Nat.{_≤_};
 ghost use lib.ListN.{length, take};

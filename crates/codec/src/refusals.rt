@@ -1,4 +1,4 @@
-// The tests of the operations, in the order of document 01. They look and answer, and change nothing.
+// The tests of the operations, in the order of document 01. They look and answer, and change nothing. Assumes nothing.
 ghost use mathlib.Core.Path.{_≡_};
 ghost use Rattle.refusal.specs.Answers.{outcome};
 ghost use Rattle.codec.specs.Answers.{k-bad, encode-refusal, syndrome-refusal, decode-tests};

@@ -1,5 +1,5 @@
 // The spectrum of a card: the coefficients of the polynomial that takes its symbols at 1, z, .. z^5. It is linear in the card's
-// digits.
+// digits. Assumes nothing.
 ghost use mathlib.Core.Path.{_≡_};
 ghost use Rattle.algebra.specs.Lists.{table};
 ghost use Rattle.coding.specs.Spectrum.{spectrum};

@@ -1,4 +1,5 @@
-// The test values of a card (document 01: Test): traces of its spectrum times constants, as small numbers, by packed digits.
+// The test values of a card (document 01: Test): traces of its spectrum times constants, as small numbers, by packed digits. Assumes
+// nothing.
 ghost use mathlib.Core.Path.{_≡_};
 ghost use Prim.Native.Nat.{_*_, _-_, _≤_};
 ghost use lib.ListN.{length, drop};

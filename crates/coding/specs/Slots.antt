@@ -3,7 +3,7 @@
 -- Main: slot-map, slot-mapped, places, places-are.
 use mathlib.Core.Path.{_≡_, refl, sym, ap, ap₂, _∙_}
 use mathlib.Core.Bool.{Bool, true, false, cond}
-use mathlib.Core.List.{List, [], _∷_}
+use mathlib.Core.List.{List, [], _∷_, _++_}
 use Prim.Native.Nat.{ℕ, zero, suc, _+_, _*_, _-_, _/_, _%_, _≤_, _<_}
 use native.Mathlib.Nat.{mod-eq-of-lt}
 use native.Mathlib.Omega.{arith}
@@ -88,7 +88,14 @@ unfolding computing gamma-power
 gamma-is = one-to-five _ refl refl refl refl refl
 
 unfoldable pub delta-power : (s i : ℕ) → ℕ
-delta-power s i = getD (396 ∷ 420 ∷ 500 ∷ 677 ∷ 61 ∷ 319 ∷ 408 ∷ 35 ∷ 332 ∷ 499 ∷ 241 ∷ 640 ∷ 175 ∷ 149 ∷ 378 ∷ 331 ∷ 261 ∷ 209 ∷ 308 ∷ 588 ∷ 268 ∷ 380 ∷ 678 ∷ 448 ∷ 520 ∷ 58 ∷ 652 ∷ 267 ∷ 527 ∷ 117 ∷ 375 ∷ 214 ∷ 675 ∷ 651 ∷ 416 ∷ 550 ∷ []) (6 * i + s) 0
+delta-power s i = getD (
+    396 ∷ 420 ∷ 500 ∷ 677 ∷ 61 ∷ 319
+    ∷ 408 ∷ 35 ∷ 332 ∷ 499 ∷ 241 ∷ 640
+    ∷ 175 ∷ 149 ∷ 378 ∷ 331 ∷ 261 ∷ 209
+    ∷ 308 ∷ 588 ∷ 268 ∷ 380 ∷ 678 ∷ 448
+    ∷ 520 ∷ 58 ∷ 652 ∷ 267 ∷ 527 ∷ 117
+    ∷ 375 ∷ 214 ∷ 675 ∷ 651 ∷ 416 ∷ 550
+    ∷ []) (6 * i + s) 0
 
 delta-test : every 6 (λ i. every 6 (λ s. eqb (delta-power s i) (risen-delta s i))) ≡ true
 unfolding computing delta-power risen-delta delta at
@@ -204,25 +211,25 @@ module _ (k : ℕ) (p : 1 ≤ k) (q : k ≤ 5) (c : List ℕ) where
   unfolding slot
   slot-is j h = rw (le-ltb 5 (j + k) h)
 
-  pub low-first : (j : ℕ) → j + k ≡ 5 → slot k c j % 27 ≡ small-of (trace (times (risen (6 - k) gamma) (P 0 (mu k) c)))
+  low-first : (j : ℕ) → j + k ≡ 5 → slot k c j % 27 ≡ small-of (trace (times (risen (6 - k) gamma) (P 0 (mu k) c)))
   unfolding low-factor low-index
   low-first j h =
       ap (λ (n : ℕ). n % 27) (slot-is j (omega arith)) ∙ two-low _ _ _ _
       ∙ rw (eq-eqb (j + k) 5 h, gamma-is k p q) (ap (λ (x : ℕ). small-of (trace x)) (times-assoc _ _ _ ∙ ap (times (risen (6 - k) gamma)) (weighted-is 0 (omega arith))))
 
-  pub low-pair : (j : ℕ) → j + k < 5 → slot k c j % 27 ≡ small-of (trace (times gamma (P (5 - j) (mu k) c)))
+  low-pair : (j : ℕ) → j + k < 5 → slot k c j % 27 ≡ small-of (trace (times gamma (P (5 - j) (mu k) c)))
   unfolding low-factor low-index
   low-pair j h =
       ap (λ (n : ℕ). n % 27) (slot-is j (omega arith)) ∙ two-low _ _ _ _
       ∙ rw (ne-eqb (j + k) 5 (λ e. omega arith)) (ap (λ (x : ℕ). small-of (trace x)) (times-assoc _ _ _ ∙ ap (times gamma) (weighted-is (5 - j) (omega arith))))
 
-  pub high-pair : (j : ℕ) → 1 ≤ j → j + k ≤ 5 → slot k c j / 27 ≡ small-of (trace (P (6 - j) (mu k) c))
+  high-pair : (j : ℕ) → 1 ≤ j → j + k ≤ 5 → slot k c j / 27 ≡ small-of (trace (P (6 - j) (mu k) c))
   unfolding high-index
   high-pair j l h =
       ap (λ (n : ℕ). n / 27) (slot-is j h) ∙ two-high _ _ _ _
       ∙ rw (ne-eqb j 0 (λ e. omega arith)) (ap (λ (x : ℕ). small-of (trace x)) (weighted-is (6 - j) (omega arith)))
 
-  pub high-last : slot k c 0 / 27 ≡ small-of (trace (P k (mu k) c))
+  high-last : slot k c 0 / 27 ≡ small-of (trace (P k (mu k) c))
   unfolding high-index
   high-last = ap (λ (n : ℕ). n / 27) (slot-is 0 (omega arith)) ∙ two-high _ _ _ _ ∙ ap (λ (x : ℕ). small-of (trace x)) (weighted-is k (omega arith))
 
@@ -232,11 +239,26 @@ places r =
     getD r 4 0 % 27 ∷ (getD r 4 0 / 27) ∷ getD r 3 0 % 27 ∷ (getD r 3 0 / 27) ∷ getD r 2 0 % 27 ∷ (getD r 2 0 / 27) ∷ getD r 1 0 % 27 ∷ (getD r 1 0 / 27)
     ∷ getD r 0 0 % 27 ∷ (getD r 0 0 / 27) ∷ []
 
-pub places-are : (k : ℕ) → 1 ≤ k → k ≤ 5 → (c : List ℕ) → drop (2 * k - 2) (places (table 6 (slot k c))) ≡ test-values k (mu k) c
-unfolding places table test-values pairs-from
-places-are = one-to-five (λ k. (c : List ℕ) → drop (2 * k - 2) (places (table 6 (slot k c))) ≡ test-values k (mu k) c)
-    (λ c. cons (low-first 1 (lit≤ tt) (lit≤ tt) c 4 refl) (cons (high-pair 1 (lit≤ tt) (lit≤ tt) c 4 (lit≤ tt) (lit≤ tt)) (cons (low-pair 1 (lit≤ tt) (lit≤ tt) c 3 (lit< tt)) (cons (high-pair 1 (lit≤ tt) (lit≤ tt) c 3 (lit≤ tt) (lit≤ tt)) (cons (low-pair 1 (lit≤ tt) (lit≤ tt) c 2 (lit< tt)) (cons (high-pair 1 (lit≤ tt) (lit≤ tt) c 2 (lit≤ tt) (lit≤ tt)) (cons (low-pair 1 (lit≤ tt) (lit≤ tt) c 1 (lit< tt)) (cons (high-pair 1 (lit≤ tt) (lit≤ tt) c 1 (lit≤ tt) (lit≤ tt)) (cons (low-pair 1 (lit≤ tt) (lit≤ tt) c 0 (lit< tt)) (cons (high-last 1 (lit≤ tt) (lit≤ tt) c) refl))))))))))
-    (λ c. cons (low-first 2 (lit≤ tt) (lit≤ tt) c 3 refl) (cons (high-pair 2 (lit≤ tt) (lit≤ tt) c 3 (lit≤ tt) (lit≤ tt)) (cons (low-pair 2 (lit≤ tt) (lit≤ tt) c 2 (lit< tt)) (cons (high-pair 2 (lit≤ tt) (lit≤ tt) c 2 (lit≤ tt) (lit≤ tt)) (cons (low-pair 2 (lit≤ tt) (lit≤ tt) c 1 (lit< tt)) (cons (high-pair 2 (lit≤ tt) (lit≤ tt) c 1 (lit≤ tt) (lit≤ tt)) (cons (low-pair 2 (lit≤ tt) (lit≤ tt) c 0 (lit< tt)) (cons (high-last 2 (lit≤ tt) (lit≤ tt) c) refl))))))))
-    (λ c. cons (low-first 3 (lit≤ tt) (lit≤ tt) c 2 refl) (cons (high-pair 3 (lit≤ tt) (lit≤ tt) c 2 (lit≤ tt) (lit≤ tt)) (cons (low-pair 3 (lit≤ tt) (lit≤ tt) c 1 (lit< tt)) (cons (high-pair 3 (lit≤ tt) (lit≤ tt) c 1 (lit≤ tt) (lit≤ tt)) (cons (low-pair 3 (lit≤ tt) (lit≤ tt) c 0 (lit< tt)) (cons (high-last 3 (lit≤ tt) (lit≤ tt) c) refl))))))
-    (λ c. cons (low-first 4 (lit≤ tt) (lit≤ tt) c 1 refl) (cons (high-pair 4 (lit≤ tt) (lit≤ tt) c 1 (lit≤ tt) (lit≤ tt)) (cons (low-pair 4 (lit≤ tt) (lit≤ tt) c 0 (lit< tt)) (cons (high-last 4 (lit≤ tt) (lit≤ tt) c) refl))))
-    (λ c. cons (low-first 5 (lit≤ tt) (lit≤ tt) c 0 refl) (cons (high-last 5 (lit≤ tt) (lit≤ tt) c) refl))
+-- they are the low value of slot 5 - k, and those from its high value on
+from-high : (k : ℕ) → (card : List ℕ) → (j : ℕ) → List ℕ
+from-high k c zero = (slot k c 0 / 27) ∷ []
+from-high k c (suc j) = (slot k c (suc j) / 27) ∷ slot k c j % 27 ∷ from-high k c j
+
+dropped : (k : ℕ) → 1 ≤ k → k ≤ 5 → (c : List ℕ) → drop (2 * k - 2) (places (table 6 (slot k c))) ≡ slot k c (5 - k) % 27 ∷ from-high k c (5 - k)
+unfolding places table from-high
+dropped = one-to-five _ (λ c. refl) (λ c. refl) (λ c. refl) (λ c. refl) (λ c. refl)
+
+module _ (k : ℕ) (p : 1 ≤ k) (q : k ≤ 5) (c : List ℕ) where
+  pairs-are : (j : ℕ) → j + k ≤ 5 → from-high k c j ≡ pairs-from j (6 - j) (mu k) c ++ (small-of (trace (P k (mu k) c)) ∷ [])
+  unfolding from-high pairs-from
+  pairs-are zero h = cons (high-last k p q c) refl
+  pairs-are (suc j) h =
+      let same : 5 - j ≡ 6 - suc j = omega arith in
+      let next : 6 - j ≡ suc (6 - suc j) = omega arith in
+      cons (high-pair k p q c (suc j) (omega arith) h) (cons (rw same at (low-pair k p q c j (omega arith))) (rw next at (pairs-are j (omega arith))))
+
+  pub places-are : drop (2 * k - 2) (places (table 6 (slot k c))) ≡ test-values k (mu k) c
+  unfolding test-values
+  places-are =
+      let start : 6 - (5 - k) ≡ suc k = omega arith in
+      dropped k p q c ∙ cons (low-first k p q c (5 - k) (omega arith)) (rw start at (pairs-are (5 - k) (omega arith)))

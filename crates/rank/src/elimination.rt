@@ -1,4 +1,4 @@
-// Row elimination on a square of digits, by value, step by step as specs/Elimination.antt defines it.
+// Row elimination on a square of digits, by value, step by step as specs/Elimination.antt defines it. Assumes nothing.
 use crate::row::multiple;
 use crate::row::row_less;
 ghost use mathlib.Core.Path.{_≡_};

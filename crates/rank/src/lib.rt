@@ -1,4 +1,4 @@
-// The rank of a card (document 01: Code): six symbols as a square of digits, reduced to its rank modulo 3 by row elimination.
+// The rank of a card (document 01: Code): six symbols as a square of digits, reduced to its rank modulo 3 by row elimination. Assumes nothing.
 mod elimination;
 mod row;
 mod square;

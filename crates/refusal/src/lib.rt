@@ -1,4 +1,4 @@
-// Why an operation refuses, one variant for each refusal of document 01 with its number, and the answers that may be refusals.
+// Why an operation refuses, one variant for each refusal of document 01 with its number, and the answers that may be refusals. Assumes nothing.
 ghost use mathlib.Core.Path.{_≡_};
 ghost use Rattle.refusal.specs.Answers.{number, outcome, told};
 

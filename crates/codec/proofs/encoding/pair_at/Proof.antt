@@ -1,5 +1,5 @@
 -- `codec::encoding::pair_at` meets its contract: three cases of s and k. Assumes nothing.
-use mathlib.Core.Path.{_≡_, sym, _∙_}
+use mathlib.Core.Path.{sym}
 use native.Mathlib.Omega.{arith}
 use borrow.Author.Tests.{lt-ltb, le-ltb, eq-eqb, ne-eqb}
 use Rattle.coding.specs.Transforms.{number-at}

@@ -5,7 +5,19 @@ use Rattle.decoder.proofs.two.middle.Tie as tie
 
 returns : tie.Need-returns
 returns c =
-    rw (c .sum3 .ensures, c .before .product-with3 .ensures, c .before .before .inverse-with .ensures, c .before .before .before .sum2 .ensures, c .before .before .before .before .cube-product-with .ensures, c .before .before .before .before .before .product-with2 .ensures, c .before .before .before .before .before .before .difference .ensures, c .before .before .before .before .before .before .before .sum .ensures, c .before .before .before .before .before .before .before .before .product-with .ensures)
+    let t = c .before .before .before in
+    let e = t .before .before .before in
+    rw (
+      c .sum3 .ensures,
+      c .before .product-with3 .ensures,
+      c .before .before .inverse-with .ensures,
+      t .sum2 .ensures,
+      t .before .cube-product-with .ensures,
+      t .before .before .product-with2 .ensures,
+      e .difference .ensures,
+      e .before .sum .ensures,
+      e .before .before .product-with .ensures,
+    )
 
 pub middle-spec : {M : Type 1} → statement M
 middle-spec =
