@@ -128,10 +128,12 @@ root-is P L1 L0 e₀ e₄ e₅ n q h k =
 -- a product of powers of x is 0 for 0 only
 power-none : (b x : ℕ) → minus (times b 0) (times (cube (cube x)) (cube x)) ≡ 0 → Zero x
 unfolding risen
-power-none b x q = elim (ℕ-discrete (x % 729) 0) [
-  | yes z ↦ z
-  | no n ↦ absurd (times-not-zero (cube (cube x)) (cube x) (risen-not-zero 2 x n) (risen-not-zero 1 x n) (sym (minus-none (times b 0) _ (ap (λ (y : ℕ). y % 729) q)) ∙ ap (λ (y : ℕ). y % 729) (times-zero b)))
-]
+power-none b x q =
+    let none : Zero (times (cube (cube x)) (cube x)) = sym (minus-none (times b 0) _ (ap (λ (y : ℕ). y % 729) q)) ∙ ap (λ (y : ℕ). y % 729) (times-zero b) in
+    elim (ℕ-discrete (x % 729) 0) [
+      | yes z ↦ z
+      | no n ↦ absurd (times-not-zero (cube (cube x)) (cube x) (risen-not-zero 2 x n) (risen-not-zero 1 x n) none)
+    ]
 
 module _ (e : ℕ → ℕ) (A : Annihilated e) (none : key e ≡ 0) where
   det-none : det e (e 0) ≡ 0
@@ -141,12 +143,17 @@ module _ (e : ℕ → ℕ) (A : Annihilated e) (none : key e ≡ 0) where
   ratio-none : Zero (e 5) → Ratio e
   unfolding key
   ratio-none z₅ =
-      let z₄ : Zero (e 4) = power-none (cube (cube (e 3))) (e 4) (ap (λ (c : ℕ). minus (times (cube (cube (e 3))) c) (times (cube (cube (e 4))) (cube (e 4)))) (sym (none-cube (e 5) z₅)) ∙ none) in
+      let left : (c : ℕ) → ℕ = λ c. minus (times (cube (cube (e 3))) c) (times (cube (cube (e 4))) (cube (e 4))) in
+      let z₄ : Zero (e 4) = power-none (cube (cube (e 3))) (e 4) (ap left (sym (none-cube (e 5) z₅)) ∙ none) in
       let z₃ = third-none _ _ (e 3) _ _ (A .equation 5 (lit< tt)) z₄ z₅ in
       let z₂ = third-none _ _ (e 2) _ _ (A .equation 4 (lit< tt)) z₃ z₄ in
       let z₁ = third-none _ _ (e 1) _ _ (A .equation 3 (lit< tt)) z₂ z₃ in
       let z₀ = third-none _ _ (e 0) _ _ (A .equation 2 (lit< tt)) z₁ z₂ in
-      record { P = 1; unit = λ u. omega arith; equation = below-six _ (both (e 5) (e 0) z₅ z₀) (both (e 0) (e 1) z₀ z₁) (both (e 1) (e 2) z₁ z₂) (both (e 2) (e 3) z₂ z₃) (both (e 3) (e 4) z₃ z₄) (both (e 4) (e 5) z₄ z₅) }
+      record {
+        P = 1;
+        unit = λ u. omega arith;
+        equation = below-six _ (both _ _ z₅ z₀) (both _ _ z₀ z₁) (both _ _ z₁ z₂) (both _ _ z₂ z₃) (both _ _ z₃ z₄) (both _ _ z₄ z₅);
+      }
     where
       both : (x y : ℕ) → Zero x → Zero y → cube x ≡ times 1 y
       both x y u v = none-cube x u ∙ sym (times-comm 1 y ∙ zero-factor y 1 v)

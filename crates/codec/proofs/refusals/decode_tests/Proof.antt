@@ -20,15 +20,37 @@ returns-3 c = rw (sym (c .before .before .before .bad-dimension .ensures) ∙ c 
 
 returns-4 : tie.Need-returns-4
 unfolding tests decode-tests
-returns-4 c = rw (sym (c .before .before .before .before .bad-dimension .ensures) ∙ c .before .before .before .if1 .left, eq-eqb _ _ (c .before .before .if2 .left), eq-eqb _ _ (c .before .if3 .left), ne-eqb _ _ (c .if4 .taken))
+returns-4 c =
+    let d = c .before .before .before in
+    rw (sym (d .before .bad-dimension .ensures) ∙ d .if1 .left, eq-eqb _ _ (c .before .before .if2 .left), eq-eqb _ _ (c .before .if3 .left), ne-eqb _ _ (c .if4 .taken))
 
 returns-5 : tie.Need-returns-5
 unfolding tests decode-tests
-returns-5 c = rw (sym (c .before .before .before .before .before .before .bad-dimension .ensures) ∙ c .before .before .before .before .before .if1 .left, eq-eqb _ _ (c .before .before .before .before .if2 .left), eq-eqb _ _ (c .before .before .before .if3 .left), eq-eqb _ _ (c .before .before .if4 .left), sym (c .before .any-above .ensures) ∙ c .if5 .taken)
+returns-5 c =
+    let a = c .before in
+    let l = a .before in
+    let d = l .before .before .before in
+    rw (
+      sym (d .before .bad-dimension .ensures) ∙ d .if1 .left,
+      eq-eqb _ _ (l .before .before .if2 .left),
+      eq-eqb _ _ (l .before .if3 .left),
+      eq-eqb _ _ (l .if4 .left),
+      sym (a .any-above .ensures) ∙ c .if5 .taken,
+    )
 
 returns-6 : tie.Need-returns-6
 unfolding tests decode-tests
-returns-6 c = rw (sym (c .before .before .before .before .before .before .bad-dimension .ensures) ∙ c .before .before .before .before .before .if1 .left, eq-eqb _ _ (c .before .before .before .before .if2 .left), eq-eqb _ _ (c .before .before .before .if3 .left), eq-eqb _ _ (c .before .before .if4 .left), sym (c .before .any-above .ensures) ∙ c .if5 .left)
+returns-6 c =
+    let a = c .before in
+    let l = a .before in
+    let d = l .before .before .before in
+    rw (
+      sym (d .before .bad-dimension .ensures) ∙ d .if1 .left,
+      eq-eqb _ _ (l .before .before .if2 .left),
+      eq-eqb _ _ (l .before .if3 .left),
+      eq-eqb _ _ (l .if4 .left),
+      sym (a .any-above .ensures) ∙ c .if5 .left,
+    )
 
 pub decode-tests-spec : {M : Type 1} → statement M
 decode-tests-spec =

@@ -25,11 +25,19 @@ returns-3 c = rw (sym (c .before .before .before .bad-dimension .ensures) ∙ c 
 
 returns-4 : tie.Need-returns-4
 unfolding tests syndrome-refusal
-returns-4 c = rw (sym (c .before .before .before .before .before .bad-dimension .ensures) ∙ c .before .before .before .before .if1 .left, eq-eqb _ _ (c .before .before .before .if2 .left), eq-eqb _ _ (c .before .before .if3 .left), sym (c .before .any-above .ensures) ∙ c .if4 .taken)
+returns-4 c =
+    let a = c .before in
+    let l = a .before in
+    let d = l .before .before in
+    rw (sym (d .before .bad-dimension .ensures) ∙ d .if1 .left, eq-eqb _ _ (l .before .if2 .left), eq-eqb _ _ (l .if3 .left), sym (a .any-above .ensures) ∙ c .if4 .taken)
 
 returns-5 : tie.Need-returns-5
 unfolding tests syndrome-refusal
-returns-5 c = rw (sym (c .before .before .before .before .before .bad-dimension .ensures) ∙ c .before .before .before .before .if1 .left, eq-eqb _ _ (c .before .before .before .if2 .left), eq-eqb _ _ (c .before .before .if3 .left), sym (c .before .any-above .ensures) ∙ c .if4 .left)
+returns-5 c =
+    let a = c .before in
+    let l = a .before in
+    let d = l .before .before in
+    rw (sym (d .before .bad-dimension .ensures) ∙ d .if1 .left, eq-eqb _ _ (l .before .if2 .left), eq-eqb _ _ (l .if3 .left), sym (a .any-above .ensures) ∙ c .if4 .left)
 
 pub syndrome-tests-spec : {M : Type 1} → statement M
 syndrome-tests-spec =
