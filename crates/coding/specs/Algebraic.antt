@@ -1,6 +1,6 @@
 -- Decoding for k = 2 by algebra: a message near a card is computed from the card's spectrum r and, unless `key r` is 0, its own first number.
 -- Assumes nothing.
--- Main: key, ninth, proposed, near-ninth, near-proposed.
+-- Main: key, above, ninth, proposed, near-ninth, near-proposed.
 use mathlib.Core.Path.{_≡_, refl, sym, ap, _∙_}
 use mathlib.Core.Bool.{true}
 use mathlib.Core.List.{List, [], _∷_}
@@ -73,10 +73,12 @@ module _ {e : ℕ → ℕ} (A : Annihilated e) where
   unfolding det numerator
   numerator-times = solved-1 _ _ _ _ _ _ (A .L1) (A .L0) (A .equation 5 (lit< tt)) (A .equation 0 (lit< tt))
 
--- the ninth power of the message's last symbol (684 is 1 / gamma⁹), and the coefficient in the middle
+-- the ninth power of the message's last symbol, and what stands above the determinant in it (684 is 1 / gamma⁹); the coefficient in the middle
+unfoldable pub above : (r : ℕ → ℕ) → (x : ℕ) → ℕ
+above r x = times 684 (add (times (cube (cube (r 2))) (det r x)) (add (times (numerator r x) (cube (r 3))) (times (key r) (r 4))))
+
 unfoldable pub ninth : (r : ℕ → ℕ) → (x : ℕ) → ℕ
-ninth r x =
-    add (times 684 (cube (cube (r 2)))) (times (inverse (det r x)) (add (times (numerator r x) (times 684 (cube (r 3)))) (times 684 (times (key r) (r 4)))))
+ninth r x = times (inverse (det r x)) (above r x)
 
 unfoldable pub middle : (r : ℕ → ℕ) → (x : ℕ) → ℕ
 middle r x = add (r 1) (times (inverse (key r)) (add (times (cube (cube (r 5))) (det r x)) (times (numerator r x) (cube x))))
@@ -91,14 +93,14 @@ proposed r a =
 
 -- steps of the computation, in plain variables
 last-step : (D N K b c e r f : ℕ) → ¬ Zero D → add (times D b) (add (times N c) (times K e)) ≡ 0 → b ≡ minus r f
-    → add (times 684 r) (times (inverse D) (add (times N (times 684 c)) (times 684 (times K e)))) ≡ times 684 f
+    → times (inverse D) (times 684 (add (times r D) (add (times N c) (times K e)))) ≡ times 684 f
 last-step D N K b c e r f n q h =
-    ap (λ (x : ℕ). add (times 684 r) (times (inverse D) x)) (before ∙ rw q after) ∙ ap (add (times 684 r)) (divide D (times 684 (minus 0 b)) n) ∙ rw h (simp ring)
+    ap (times (inverse D)) (before ∙ rw q after) ∙ divide D (times 684 (minus r b)) n ∙ rw h (simp ring)
   where
-    before : add (times N (times 684 c)) (times 684 (times K e)) ≡ add (times D (times 684 (minus 0 b))) (times 684 (add (times D b) (add (times N c) (times K e))))
+    before : times 684 (add (times r D) (add (times N c) (times K e))) ≡ add (times D (times 684 (minus r b))) (times 684 (add (times D b) (add (times N c) (times K e))))
     before = simp ring
 
-    after : add (times D (times 684 (minus 0 b))) (times 684 0) ≡ times D (times 684 (minus 0 b))
+    after : add (times D (times 684 (minus r b))) (times 684 0) ≡ times D (times 684 (minus r b))
     after = simp ring
 
 pub middle-step : (D N K b c e r f : ℕ) → ¬ Zero K → add (times D b) (add (times N c) (times K e)) ≡ 0 → e ≡ minus r f
@@ -166,7 +168,7 @@ module _ (c : List ℕ) (card : is-card c ≡ true) (m : List ℕ) (near : Near 
     det-unit z = n (ap (λ (v : ℕ). v % 729) (sym key-det ∙ zero-factor (det r x) (A .L0) z))
 
     ninth-is : ninth r x ≡ cube (cube (small (at m 3)))
-    unfolding ninth errors coefficients higher inners at
+    unfolding ninth above errors coefficients higher inners at
     ninth-is =
         last-step (det r x) (numerator r x) (key r) _ (cube (r 3)) (r 4) (cube (cube (r 2))) (cube (cube (times gamma (small (at m 3))))) det-unit
         (without _ _ _ (A .L1) (A .L0) _ _ _ numerator-det key-det (rw (beyond 3 (lit< tt), beyond 4 (lit< tt)) at (A .equation 4 (lit< tt)))) (simp cube-minus)

@@ -7,24 +7,21 @@ use mathlib.Core.Logic.{_≢_}
 use mathlib.Core.Bool.{true}
 use mathlib.Core.List.{List, [], _∷_}
 use mathlib.Core.Option.{none, some}
-use Prim.Native.Nat.{ℕ, _%_, _≤_, _<_}
-use native.Mathlib.Omega.{arith}
+use Prim.Native.Nat.{ℕ, _≤_, _<_}
 use lib.Dec.{lit≤}
 use borrow.Author.Tests.{eq-eqb, ne-eqb}
 use Rattle.algebra.specs.Field.{add, minus, times, cube, small}
 use Rattle.algebra.specs.Lists.{table}
 use Rattle.algebra.specs.Tests.{passes}
-use Rattle.algebra.specs.Sums.{sums, minus-self, minus-none}
-use Rattle.algebra.specs.Linear.{at-minus}
 use Rattle.algebra.specs.Products.{ring}
 use Rattle.algebra.specs.Inverses.{inverse}
-use Rattle.algebra.specs.SmallField.{low, high, high-linear, low-below, high-below}
+use Rattle.algebra.specs.SmallField.{low, high, low-below, high-below}
 use Rattle.rank.specs.Definitions.{at, is-card}
 use Rattle.coding.specs.Code.{is-message}
 use Rattle.coding.specs.Options.{first-of}
 use Rattle.coding.specs.Decode.{if-near, decode}
 use Rattle.coding.specs.Spectrum.{spectrum}
-use Rattle.coding.specs.Algebraic.{det, numerator, key, ninth, middle, first-error, proposed}
+use Rattle.coding.specs.Algebraic.{det, numerator, key, above, ninth, middle, first-error, proposed}
 use Rattle.coding.specs.Closed.{if-closed}
 use Rattle.coding.specs.DecodeTwo.{attempt, decode-two, two-is-decode}
 use Rattle.coding.specs.DecodeOne.{minor, lead, mean, solved, zeroth, first, double, decode-one, one-is-decode}
@@ -80,16 +77,14 @@ pub record Prepared (r : ℕ → ℕ) (s : Shared) : Type 0 where
   pub det1 : s .det1 ≡ cube (r 4)
   pub num0 : s .num0 ≡ numerator r (r 0)
   pub num1 : s .num1 ≡ cube (cube (r 3))
-  pub over0 : s .over0 ≡ add (times (numerator r (r 0)) (times 684 (cube (r 3)))) (times 684 (times (key r) (r 4)))
-  pub over1 : s .over1 ≡ times (cube (cube (r 3))) (times 684 (cube (r 3)))
-  pub top : s .top ≡ times 684 (cube (cube (r 2)))
-  pub beyond : s .beyond ≡ high (minus 0 (s .top))
+  pub above0 : s .above0 ≡ above r (r 0)
+  pub above1 : s .above1 ≡ times 684 (lead r)
   pub ninth : s .ninth ≡ cube (cube (r 5))
   pub key : s .key ≡ key r
 
 -- they are those of a card, if the spectrum is
 pub prepared-of : (c r : List ℕ) (s : Shared) → r ≡ table 6 (spectrum c) → Prepared (at r) s → Prepared (spectrum c) s
-unfolding at table key det numerator
+unfolding at table key det numerator above lead
 prepared-of c r s e p =
     let q : Prepared (at (table 6 (spectrum c))) s = rw e at p in
     record {
@@ -99,10 +94,8 @@ prepared-of c r s e p =
       det1 = q .det1;
       num0 = q .num0;
       num1 = q .num1;
-      over0 = q .over0;
-      over1 = q .over1;
-      top = q .top;
-      beyond = q .beyond;
+      above0 = q .above0;
+      above1 = q .above1;
       ninth = q .ninth;
       key = q .key;
     }
@@ -123,20 +116,23 @@ module _ (r : ℕ → ℕ) (x : ℕ) where
       split : (p c : ℕ) → add (minus p (times c (r 0))) (times c x) ≡ minus p (times c (minus (r 0) x))
       split p c = simp ring
 
-  over-more : (t u : ℕ) → add (add (times (numerator r (r 0)) t) u) (times (times (cube (cube (r 3))) t) x) ≡ add (times (numerator r (minus (r 0) x)) t) u
-  over-more t u = split (numerator r (r 0)) (cube (cube (r 3))) ∙ ap (λ (n : ℕ). add (times n t) u) numerator-more
+  above-less : minus (above r (r 0)) (times (times 684 (lead r)) x) ≡ above r (minus (r 0) x)
+  unfolding above lead
+  above-less = rw (← det-less, ← numerator-more) (
+      split (cube (cube (r 2))) (cube (cube (r 3))) (cube (r 3)) (cube (r 4)) (det r (r 0)) (numerator r (r 0)) (times (key r) (r 4)))
     where
-      split : (n c : ℕ) → add (add (times n t) u) (times (times c t) x) ≡ add (times (add n (times c x)) t) u
-      split n c = simp ring
+      split : (b₂ b₃ c₃ c₄ d n k : ℕ) → minus (times 684 (add (times b₂ d) (add (times n c₃) k))) (times (times 684 (minus (times b₂ c₄) (times b₃ c₃))) x)
+          ≡ times 684 (add (times b₂ (minus d (times c₄ x))) (add (times (add n (times b₃ x)) c₃) k))
+      split b₂ b₃ c₃ c₄ d n k = simp ring
 
 module _ (r : ℕ → ℕ) (s : Shared) (p : Prepared r s) (a x q d : ℕ) (ex : x ≡ small a) (eq : q ≡ times (s .det1) x) (ed : d ≡ minus (s .det0) q) where
   det-is : d ≡ det r (first-error r a)
   unfolding first-error
   det-is = rw (ed, eq, p .det0, p .det1, ← ex) (det-less r x)
 
-  pub ninth-is : (q : ℕ) → q ≡ times (inverse d) (add (s .over0) (times (s .over1) x)) → add (s .top) q ≡ ninth r (first-error r a)
+  pub ninth-is : (v : ℕ) → v ≡ times (inverse d) (minus (s .above0) (times (s .above1) x)) → v ≡ ninth r (first-error r a)
   unfolding ninth first-error
-  ninth-is q e = rw (e, p .top, p .over0, p .over1, over-more r x _ _, det-is, ex)
+  ninth-is v e = rw (e, p .above0, p .above1, above-less r x, det-is, ex)
 
   pub middle-is : (f : ℕ) → f ≡ add (s .first) (times (inverse (s .key)) (add (times (s .ninth) d) (times (add (s .num0) (times (s .num1) x)) (cube (minus (s .zeroth) x)))))
       → f ≡ middle r (first-error r a)
@@ -153,24 +149,15 @@ pub proposed-message : (r : ℕ → ℕ) (a : ℕ) → a < 27 → is-message 2 (
 unfolding is-message proposed
 proposed-message r a h = passes 4 26 (proposed r a) refl (h, (low-below _, (high-below _, (low-below _, tt))))
 
--- AN ATTEMPT: the last symbol's ninth power has the parts t and q, and is small if their high numbers cancel
-high-parts : (t q : ℕ) → high (add t q) ≡ minus (high q) (high (minus 0 t))
-high-parts t q = ap high turned ∙ at-minus high-linear q (minus 0 t)
-  where
-    turned : add t q ≡ minus q (minus 0 t)
-    turned = simp sums
-
-module _ (c : List ℕ) (a t q h : ℕ) (eh : h ≡ high (minus 0 t)) (e : add t q ≡ ninth (spectrum c) (first-error (spectrum c) a)) where
-  pub attempt-none : high q ≢ h → attempt c a ≡ none
+-- AN ATTEMPT
+module _ (c : List ℕ) (a v : ℕ) (e : v ≡ ninth (spectrum c) (first-error (spectrum c) a)) where
+  pub attempt-none : high v ≢ 0 → attempt c a ≡ none
   unfolding attempt
-  attempt-none n = rw (← e, ne-eqb (high (add t q)) 0 (λ z. n (same (sym (high-parts t q) ∙ z) ∙ sym eh)))
-    where
-      same : minus (high q) (high (minus 0 t)) ≡ 0 → high q ≡ high (minus 0 t)
-      same z = omega (arith, minus-none (high q) (high (minus 0 t)) (ap (λ (x : ℕ). x % 729) z), high-below q, high-below (minus 0 t))
+  attempt-none n = rw (← e, ne-eqb (high v) 0 n)
 
-  pub attempt-some : high q ≡ h → attempt c a ≡ if-near 2 c (proposed (spectrum c) a)
+  pub attempt-some : high v ≡ 0 → attempt c a ≡ if-near 2 c (proposed (spectrum c) a)
   unfolding attempt
-  attempt-some s = rw (← e, eq-eqb (high (add t q)) 0 (high-parts t q ∙ rw (s ∙ eh) (minus-self _)))
+  attempt-some z = rw (← e, eq-eqb (high v) 0 z)
 
 -- THE ANSWER: where the key is 0, and after each attempt
 module _ (c : List ℕ) (card : is-card c ≡ true) (r : List ℕ) (e : r ≡ table 6 (spectrum c)) (k : ℕ) (ek : k ≡ key (at r)) where

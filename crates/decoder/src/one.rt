@@ -35,7 +35,7 @@ fn minor_of(r: [u16; 6], logs: &[u16; 729], powers: &[u16; 728]) -> u16
     )
 }
 
-fn lead_of(r: [u16; 6], logs: &[u16; 729], powers: &[u16; 728]) -> u16
+pub(crate) fn lead_of(r: [u16; 6], logs: &[u16; 729], powers: &[u16; 728]) -> u16
     requires { ⌜ Tables (now logs) (now powers) ⌝ }
     ensures { λ v. ⌜ v ≡ lead (at r) ⌝ }
 {

@@ -14,6 +14,7 @@ ghost use Rattle.coding.specs.Decode.{decode};
 ghost use Rattle.coding.specs.DecodeTwo.{attempt};
 ghost use Rattle.candidate.specs.Finding.{answer, Whole};
 ghost use Rattle.decoder.specs.Doubles.{Prepared};
+use crate::one::lead_of;
 use crate::single::find_single;
 use candidate::Found;
 use candidate::near;
@@ -22,8 +23,8 @@ use candidate::nothing;
 // 1 / gamma^9
 const GAMMA_BACK: u16 = 684;
 
-// What all proposals share. The determinant, the numerator and what stands over the determinant in the last symbol's ninth power each are a constant
-// and a multiple of the message's first symbol. `beyond` is the high number that makes the last symbol small.
+// What all proposals share. The determinant, the numerator and what stands above the determinant in the last symbol's ninth power each are a constant
+// and a multiple of the message's first symbol.
 pub struct Shared {
     pub zeroth: u16,
     pub first: u16,
@@ -31,10 +32,8 @@ pub struct Shared {
     pub det1: u16,
     pub num0: u16,
     pub num1: u16,
-    pub over0: u16,
-    pub over1: u16,
-    pub top: u16,
-    pub beyond: u16,
+    pub above0: u16,
+    pub above1: u16,
     pub ninth: u16,
     pub key: u16,
 }
@@ -52,7 +51,7 @@ fn key_of(r: [u16; 6], logs: &[u16; 729], powers: &[u16; 728]) -> u16
     )
 }
 
-// The constants of the determinant, of the numerator and of what stands over the determinant, and the multiple in the last; then what is added.
+// The three constants.
 fn det_of(r: [u16; 6], logs: &[u16; 729], powers: &[u16; 728]) -> u16
     requires { ⌜ Tables (now logs) (now powers) ⌝ }
     ensures { λ v. ⌜ v ≡ det (at r) (at r 0) ⌝ }
@@ -76,71 +75,55 @@ fn numerator_of(r: [u16; 6], logs: &[u16; 729], powers: &[u16; 728]) -> u16
     )
 }
 
-fn over_of(r: [u16; 6], num: u16, key: u16, logs: &[u16; 729], powers: &[u16; 728]) -> u16
+fn above_of(
+    r: [u16; 6],
+    det: u16,
+    num: u16,
+    key: u16,
+    logs: &[u16; 729],
+    powers: &[u16; 728],
+) -> u16
     requires { ⌜ Tables (now logs) (now powers) ⌝ }
-    ensures { λ v. ⌜ v ≡ add (times num (times 684 (cube (at r 3)))) (times 684 (times key (at r 4))) ⌝ }
+    ensures { λ v. ⌜ v ≡ times 684 (add (times (cube (cube (at r 2))) det) (add (times num (cube (at r 3))) (times key (at r 4)))) ⌝ }
 {
-    let third = field::cube_product_with(GAMMA_BACK, r[3], logs, powers);
-    let fourth = field::product_with(key, r[4], logs, powers);
-    field::sum(
-        field::product_with(num, third, logs, powers),
-        field::product_with(GAMMA_BACK, fourth, logs, powers),
-    )
-}
-
-fn over_factor(r: [u16; 6], logs: &[u16; 729], powers: &[u16; 728]) -> u16
-    requires { ⌜ Tables (now logs) (now powers) ⌝ }
-    ensures { λ v. ⌜ v ≡ times (cube (cube (at r 3))) (times 684 (cube (at r 3))) ⌝ }
-{
-    let b3 = field::cube_with(field::cube_with(r[3], logs, powers), logs, powers);
-    let third = field::cube_product_with(GAMMA_BACK, r[3], logs, powers);
-    field::product_with(b3, third, logs, powers)
-}
-
-fn top_of(r: [u16; 6], logs: &[u16; 729], powers: &[u16; 728]) -> u16
-    requires { ⌜ Tables (now logs) (now powers) ⌝ }
-    ensures { λ v. ⌜ v ≡ times 684 (cube (cube (at r 2))) ⌝ }
-{
-    field::cube_product_with(
-        GAMMA_BACK,
-        field::cube_with(r[2], logs, powers),
-        logs,
-        powers,
-    )
+    let b2 = field::cube_with(field::cube_with(r[2], logs, powers), logs, powers);
+    let t = field::sum(
+        field::cube_product_with(num, r[3], logs, powers),
+        field::product_with(key, r[4], logs, powers),
+    );
+    let u = field::sum(field::product_with(b2, det, logs, powers), t);
+    field::product_with(GAMMA_BACK, u, logs, powers)
 }
 
 fn prepare(r: [u16; 6], known: u16, logs: &[u16; 729], powers: &[u16; 728]) -> Shared
     requires { ⌜ (known ≡ key (at r)) × Tables (now logs) (now powers) ⌝ }
     ensures { λ s. ⌜ Prepared (at r) s ⌝ }
 {
+    let det = det_of(r, logs, powers);
     let num = numerator_of(r, logs, powers);
-    let top = top_of(r, logs, powers);
     let c3 = field::cube_with(r[3], logs, powers);
     let c5 = field::cube_with(r[5], logs, powers);
     Shared {
         zeroth: r[0],
         first: r[1],
-        det0: det_of(r, logs, powers),
+        det0: det,
         det1: field::cube_with(r[4], logs, powers),
         num0: num,
         num1: field::cube_with(c3, logs, powers),
-        over0: over_of(r, num, known, logs, powers),
-        over1: over_factor(r, logs, powers),
-        top,
-        beyond: field::high(field::negative(top)),
+        above0: above_of(r, det, num, known, logs, powers),
+        above1: field::product_with(GAMMA_BACK, lead_of(r, logs, powers), logs, powers),
         ninth: field::cube_with(c5, logs, powers),
         key: known,
     }
 }
 
-// What the last symbol's ninth power is more than `top`, from the first symbol x and the determinant.
-fn quotient(s: Shared, x: u16, d: u16, logs: &[u16; 729], powers: &[u16; 728]) -> u16
+// The last symbol's ninth power, from the first symbol x and the determinant.
+fn ninth(s: Shared, x: u16, d: u16, logs: &[u16; 729], powers: &[u16; 728]) -> u16
     requires { ⌜ Tables (now logs) (now powers) ⌝ }
-    ensures { λ q. ⌜ q ≡ times (inverse d) (add (s .over0) (times (s .over1) x)) ⌝ }
+    ensures { λ v. ⌜ v ≡ times (inverse d) (minus (s .above0) (times (s .above1) x)) ⌝ }
 {
-    let t = field::sum(s.over0, field::product_with(s.over1, x, logs, powers));
-    let i = field::inverse_with(d, logs, powers);
-    field::product_with(i, t, logs, powers)
+    let t = field::difference(s.above0, field::product_with(s.above1, x, logs, powers));
+    field::quotient_with(t, d, logs, powers)
 }
 
 // The symbol in the middle, from them.
@@ -158,19 +141,17 @@ fn middle(s: Shared, x: u16, d: u16, logs: &[u16; 729], powers: &[u16; 728]) -> 
     field::sum(s.first, field::product_with(i, t, logs, powers))
 }
 
-// The message proposed for a first number, where its last symbol is small and it is near the card. It is small if the high numbers of the two parts
-// of its ninth power cancel.
+// The message proposed for a first number, where its last symbol is small and it is near the card.
 fn attempt(card: [u16; 6], s: Shared, a: u16, logs: &[u16; 729], powers: &[u16; 728]) -> Found
     requires { ⌜ (a < 27) × Prepared (spectrum card) s × Tables (now logs) (now powers) ⌝ }
     ensures { λ r. ⌜ (answer 2 r ≡ attempt card a) × Whole 2 card r ⌝ }
 {
     let x = field::small_symbol(a);
     let d = field::difference(s.det0, field::product_with(s.det1, x, logs, powers));
-    let q = quotient(s, x, d, logs, powers);
-    if field::high(q) != s.beyond {
+    let v = ninth(s, x, d, logs, powers);
+    if field::high(v) != 0 {
         return nothing();
     }
-    let v = field::sum(s.top, q);
     let f = middle(s, x, d, logs, powers);
     let second = field::low(f);
     let third = field::high(f);

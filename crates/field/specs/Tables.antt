@@ -1,5 +1,5 @@
 -- The tables that products and inverses read, and what they read there. Assumes nothing.
--- Main: Tables, log-small, logs-small, product-near, product-round, cube-read, cube-product-read, inverse-one, inverse-back.
+-- Main: Tables, log-small, logs-small, product-near, product-round, cube-read, cube-product-read, inverse-one, inverse-back, quotient-read.
 use mathlib.Core.Path.{_≡_, sym, ap, ap₂, _∙_}
 use mathlib.Core.List.{List}
 use Prim.Native.Nat.{ℕ, zero, suc, _+_, _*_, _-_, _/_, _%_, _≤_, _<_}
@@ -100,3 +100,16 @@ module _ {l p : List ℕ} (t : Tables l p) where
 
     pub inverse-back : ¬ (exponent l a ≡ 0) → getD p (728 - exponent l a) 0 ≡ inverse a
     inverse-back e = power-read _ (omega (arith, log-small a)) ∙ rw (log-read a) (sym (inverse-power a n))
+
+  -- QUOTIENTS: the exponents are subtracted
+  pub quotient-read : (a b : ℕ) → ¬ Zero a → ¬ Zero b → getD p ((exponent l a + 728 - exponent l b) % 728) 0 ≡ times (inverse b) a
+  quotient-read a b n m =
+      power-read _ (mod-lt (exponent l a + 728 - exponent l b) (lit< tt))
+      ∙ power-rest (exponent l a + 728 - exponent l b)
+      ∙ ap (power 3) turned
+      ∙ sym (power-plus (728 - exponent l b) (exponent l a))
+      ∙ ap₂ times (ap (λ (k : ℕ). power 3 (728 - k)) (log-read b) ∙ sym (inverse-power b m)) (ap (power 3) (log-read a) ∙ power-log a n)
+      ∙ times-rest (inverse b) a
+    where
+      turned : exponent l a + 728 - exponent l b ≡ 728 - exponent l b + exponent l a
+      turned = omega (arith, log-small b)

@@ -16,6 +16,7 @@ pub use products::logs;
 pub use products::powers;
 pub use products::product;
 pub use products::product_with;
+pub use products::quotient_with;
 pub use small::high;
 pub use small::low;
 pub use small::small_number;

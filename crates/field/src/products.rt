@@ -80,6 +80,23 @@ pub fn inverse_with(a: u16, logs: &[u16; 729], powers: &[u16; 728]) -> u16
     if k == 0 { 1 } else { powers[728 - k] }
 }
 
+// a over b, by the difference of exponents; 0 where b is 0.
+pub fn quotient_with(a: u16, b: u16, logs: &[u16; 729], powers: &[u16; 728]) -> u16
+    requires { ⌜ Tables (now logs) (now powers) ⌝ }
+    ensures { λ r. ⌜ r ≡ times (inverse b) a ⌝ }
+{
+    let x = (a % 729) as usize;
+    let y = (b % 729) as usize;
+    if x == 0 {
+        return 0;
+    }
+    if y == 0 {
+        return 0;
+    }
+    let k = ((logs[x] as usize) + 728 - (logs[y] as usize)) % 728;
+    powers[k]
+}
+
 pub fn product(a: u16, b: u16) -> u16
     ensures { λ r. ⌜ r ≡ times a b ⌝ }
 {

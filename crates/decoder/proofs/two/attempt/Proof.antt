@@ -2,7 +2,6 @@
 use mathlib.Core.Path.{_≡_, sym, ap, _∙_}
 use mathlib.Core.List.{[], _∷_}
 use lib.Dec.{lit≤}
-use Rattle.algebra.specs.Field.{add}
 use Rattle.algebra.specs.SmallField.{low}
 use Rattle.coding.specs.Code.{is-message}
 use Rattle.coding.specs.Spectrum.{spectrum}
@@ -16,53 +15,52 @@ use Rattle.decoder.proofs.two.attempt.Tie as tie
 
 -- the last symbol's ninth power
 last : (h : tie.After-high) → let s = h .before .before .before .before .before in
-    add (s .args .s .top) (h .before .quotient .result) ≡ ninth (spectrum (s .args .card)) (first-error (spectrum (s .args .card)) (s .args .a))
+    h .before .ninth .result ≡ ninth (spectrum (s .args .card)) (first-error (spectrum (s .args .card)) (s .args .a))
 last h =
     let d = h .before .before in
     let b = d .before .before in
     let s = b .before in
     ninth-is (spectrum (s .args .card)) (s .args .s) (s .pre .1) (s .args .a) _ _ _ (b .small-symbol .ensures) (d .before .product-with .ensures) (d .difference .ensures) _
-    (h .before .quotient .ensures)
+    (h .before .ninth .ensures)
 
 -- the message, before it is held to the card
 proposal : (c : tie.After-low2) → let o = c .before .before .before in
-    let s = o .before .before .before .before .before .before .before .before .before .before in
+    let s = o .before .before .before .before .before .before .before .before in
     s .args .a ∷ o .low .result ∷ c .before .before .high2 .result ∷ c .low2 .result ∷ [] ≡ proposed (spectrum (s .args .card)) (s .args .a)
 proposal c =
     let n = c .before .before in
     let o = n .before in
     let m = o .before in
-    let v = m .before in
-    let h = v .before .before .before in
+    let h = m .before .before in
     let d = h .before .before in
     let b = d .before .before in
     let s = b .before in
     let f = middle-is (spectrum (s .args .card)) (s .args .s) (s .pre .1) (s .args .a) _ _ _ (b .small-symbol .ensures) (d .before .product-with .ensures) (d .difference .ensures) _
     (m .middle .ensures) in
-    proposed-is (spectrum (s .args .card)) (s .args .a) _ _ _ _ _ (v .sum .ensures ∙ last h) f (o .low .ensures) (n .high2 .ensures) (c .low2 .ensures ∙ ap low (c .before .cube-with .ensures))
+    proposed-is (spectrum (s .args .card)) (s .args .a) _ _ _ _ _ (last h) f (o .low .ensures) (n .high2 .ensures) (c .low2 .ensures ∙ ap low (c .before .cube-with .ensures))
 
 returns : tie.Need-returns
 returns c =
-    let h = c .before .before .before in
+    let h = c .before .before in
     let s = h .before .before .before .before .before in (
       answer-none 2 _ (c .nothing .ensures)
-          ∙ sym (attempt-none (s .args .card) (s .args .a) _ _ _ (s .pre .1 .beyond) (last h) (λ z. c .before .if1 .taken (h .high .ensures ∙ z))),
+          ∙ sym (attempt-none (s .args .card) (s .args .a) _ (last h) (λ z. c .before .if1 .taken (h .high .ensures ∙ z))),
       whole-none 2 (s .args .card) _ (c .nothing .ensures),
     )
 
 near-requires : tie.Need-near-requires
 near-requires c κs =
-    let s = c .before .before .before .before .before .before .before .before .before .before .before .before .before in
+    let s = c .before .before .before .before .before .before .before .before .before .before .before in
     (lit≤ tt, lit≤ tt, ap (is-message 2) (proposal c) ∙ proposed-message (spectrum (s .args .card)) (s .args .a) (s .pre .0))
 
 returns-2 : tie.Need-returns-2
 returns-2 c =
-    let m = c .before .before .before .before .before .before in
-    let h = m .before .before .before in
+    let m = c .before .before .before .before .before in
+    let h = m .before .before in
     let s = h .before .before .before .before .before in (
       c .near .ensures .0
           ∙ ap (if-near 2 (s .args .card)) (proposal (c .before))
-          ∙ sym (attempt-some (s .args .card) (s .args .a) _ _ _ (s .pre .1 .beyond) (last h) (sym (h .high .ensures) ∙ m .before .if1 .left)),
+          ∙ sym (attempt-some (s .args .card) (s .args .a) _ (last h) (sym (h .high .ensures) ∙ m .before .if1 .left)),
       c .near .ensures .1,
     )
 
@@ -77,7 +75,6 @@ attempt-spec =
     (λ c κs. search needs)
     (λ c κs. search needs)
     returns
-    (λ c κs. search needs)
     (λ c κs. search needs)
     (λ c κs. search needs)
     (λ c κs. search needs)

@@ -1,22 +1,21 @@
 -- `decoder::two::prepare` meets its contract: each field by its own call. Assumes nothing.
 use mathlib.Core.Path.{refl, ap, _∙_}
-use Rattle.algebra.specs.Field.{cube}
-use Rattle.algebra.specs.SmallField.{high}
+use Rattle.algebra.specs.Field.{times, cube}
 use Rattle.rank.specs.Definitions.{at}
+use Rattle.coding.specs.Algebraic.{above}
 use borrow.Author.Needs.{needs}
 use Rattle.decoder.proofs.two.prepare.Statement.{statement}
 use Rattle.decoder.proofs.two.prepare.Tie as tie
 
 returns : tie.Need-returns
-unfolding at
+unfolding at above
 returns c =
-    let g = c .before in
-    let o = g .before .before .before in
-    let d = o .before .before .before in
-    let b = d .before in
-    let t = b .before .before in
-    let n = t .before in
-    let s = n .before in
+    let l = c .before .before in
+    let o = l .before in
+    let b = o .before .before .before in
+    let n = b .before .before in
+    let d = n .before in
+    let s = d .before in
     record {
       zeroth = refl;
       first = refl;
@@ -24,10 +23,8 @@ returns c =
       det1 = o .before .before .cube-with3 .ensures;
       num0 = n .numerator-of .ensures;
       num1 = o .before .cube-with4 .ensures ∙ ap cube (b .before .cube-with .ensures);
-      over0 = rw (o .over-of .ensures, n .numerator-of .ensures, s .pre .0);
-      over1 = g .before .before .over-factor .ensures;
-      top = t .top-of .ensures;
-      beyond = g .high .ensures ∙ ap high (g .before .negative .ensures);
+      above0 = rw (o .above-of .ensures, d .det-of .ensures, n .numerator-of .ensures, s .pre .0);
+      above1 = c .before .product-with .ensures ∙ ap (times 684) (l .lead-of .ensures);
       ninth = c .cube-with5 .ensures ∙ ap cube (b .cube-with2 .ensures);
       key = s .pre .0;
     }
@@ -44,9 +41,7 @@ prepare-spec =
     (λ c κs. search needs)
     (λ c. search needs)
     (λ c. search needs)
-    (λ c κs. search needs)
     (λ c. search needs)
-    (λ c κs. search needs)
     (λ c κs. search needs)
     (λ c κs. search needs)
     (λ c κs. search needs)
