@@ -9,6 +9,11 @@ use std::sync::Mutex;
 
 pub const LONGEST_BOOK: usize = 65_536;
 pub const LONGEST_BODY: usize = 65_532;
+
+/// A text to be filled with a listing has at least this length: no listing is
+/// longer.
+pub const LISTING_MAX: usize = 131_072;
+
 const CARD_BYTES: usize = 12;
 
 #[derive(Clone, Copy, PartialEq, Eq, Debug)]
@@ -45,6 +50,14 @@ pub fn tune_body(book: &[u8], number: u32) -> Result<Range<usize>, Refusal> {
     Ok(entry.ok_or(Refusal::NoSuchTune)?.body())
 }
 
+/// The number and the count of cards of the tune at a place of the contents,
+/// counted from 0.
+pub fn tune_at(book: &[u8], place: u32) -> Result<[u32; 2], Refusal> {
+    let entries = contents(book)?;
+    let entry = entries.get(place as usize).ok_or(Refusal::NoSuchTune)?;
+    Ok([entry.tune, entry.cards as u32])
+}
+
 /// The strike of a body's card, counted from 1 ("Read").
 pub fn read_card(body: &[u8], number: u32) -> Result<Strike, Refusal> {
     let cards = cards(body)?;
@@ -69,6 +82,14 @@ pub fn damaged_cards(body: &[u8]) -> Result<Vec<u32>, Refusal> {
         .filter(|(_, card)| worn(card))
         .map(|(number, _)| number)
         .collect())
+}
+
+/// The listing of a book, for a lent text of `text_len` bytes.
+pub fn list(book: &[u8], text_len: usize) -> Result<String, Refusal> {
+    match text_len < LISTING_MAX {
+        true => Err(Refusal::Length),
+        false => Ok(listing(book)),
+    }
 }
 
 /// What the listing program prints for a book.

@@ -1,13 +1,15 @@
-//! Calls of the nine operations, and what comes of them: by the reference, and
-//! by another implementation.
+//! Calls of all operations but the listing, and what comes of them: by the
+//! reference, and by another implementation.
 //!
 //! Both can be printed as one line of decimal numbers. A call's line is the
-//! number of the operation (1 to 9, in the order of `Call`), then its number
-//! if it has one (k, a tune's or a card's number), then its lists, each as its
-//! length and its values. An outcome's line is the status (0 or the refusal),
-//! then the numbers given back if the status is 0, then the final values of
-//! the lists that the call lends to be filled, without their lengths.
+//! number of the operation (1 to 10, in the order of `Call`), then its number
+//! if it has one (k, a tune's or a card's number, a place of the contents),
+//! then its lists, each as its length and its values. An outcome's line is the
+//! status (0 or the refusal), then the numbers given back if the status is 0,
+//! then the final values of the lists that the call lends to be filled,
+//! without their lengths.
 
+use crate::lent::{reading, Lent, UNTOUCHED};
 use crate::library::Library;
 use crate::refusal::Refusal;
 use crate::{book, code};
@@ -52,6 +54,10 @@ pub enum Call {
     DamagedCard {
         body: Vec<u8>,
     },
+    TuneAt {
+        place: u32,
+        book: Vec<u8>,
+    },
 }
 
 #[derive(Clone, PartialEq, Eq, Debug)]
@@ -65,12 +71,6 @@ pub struct Outcome {
 
 /// The numbers given back and the lists filled.
 type Answer = (Vec<u32>, Vec<Vec<u16>>);
-
-/// What an out number holds before a call.
-const UNTOUCHED: u32 = 3_141_592_653;
-
-/// What lies before and after each lent list.
-const GUARD: [u8; 16] = [77; 16];
 
 impl Call {
     pub fn line(&self) -> String {
@@ -104,6 +104,7 @@ impl Call {
             Call::ReadCard { number, body } => (7, Some(*number), vec![wide(body)]),
             Call::TotalDelay { body } => (8, None, vec![wide(body)]),
             Call::DamagedCard { body } => (9, None, vec![wide(body)]),
+            Call::TuneAt { place, book } => (10, Some(*place), vec![wide(book)]),
         }
     }
 
@@ -163,6 +164,7 @@ impl Call {
             }
             Call::TotalDelay { body } => (vec![book::total_delay(body)?], vec![]),
             Call::DamagedCard { body } => return damaged_answers(body),
+            Call::TuneAt { place, book } => (book::tune_at(book, *place)?.to_vec(), vec![]),
         };
         Ok(vec![answer])
     }
@@ -182,12 +184,12 @@ impl Call {
         match self {
             Call::Encode { k, message, word } => {
                 let mut word = Lent::new(word);
-                let status = self.reading(message, |m| L::encode(*k, m, word.list()));
+                let status = reading(self, message, |m| L::encode(*k, m, word.list()));
                 outcome(status, &[], vec![word.values(self)])
             }
             Call::Weight { symbols } => {
                 let mut rank = UNTOUCHED;
-                let status = self.reading(symbols, |s| L::weight(s, &mut rank));
+                let status = reading(self, symbols, |s| L::weight(s, &mut rank));
                 outcome(status, &[rank], vec![])
             }
             Call::Syndrome {
@@ -196,7 +198,7 @@ impl Call {
                 values,
             } => {
                 let mut values = Lent::new(values);
-                let status = self.reading(received, |r| L::syndrome(*k, r, values.list()));
+                let status = reading(self, received, |r| L::syndrome(*k, r, values.list()));
                 outcome(status, &[], vec![values.values(self)])
             }
             Call::Decode {
@@ -207,7 +209,7 @@ impl Call {
             } => {
                 let (mut word, mut message) = (Lent::new(word), Lent::new(message));
                 let mut distance = UNTOUCHED;
-                let status = self.reading(received, |r| {
+                let status = reading(self, received, |r| {
                     L::decode(*k, r, word.list(), message.list(), &mut distance)
                 });
                 let lists = vec![word.values(self), message.values(self)];
@@ -215,40 +217,39 @@ impl Call {
             }
             Call::Open { book } => {
                 let mut tunes = UNTOUCHED;
-                let status = self.reading(book, |b| L::open(b, &mut tunes));
+                let status = reading(self, book, |b| L::open(b, &mut tunes));
                 outcome(status, &[tunes], vec![])
             }
             Call::TuneBody { number, book } => {
                 let (mut offset, mut length) = (UNTOUCHED, UNTOUCHED);
-                let status =
-                    self.reading(book, |b| L::tune_body(b, *number, &mut offset, &mut length));
+                let status = reading(self, book, |b| {
+                    L::tune_body(b, *number, &mut offset, &mut length)
+                });
                 outcome(status, &[offset, length], vec![])
             }
             Call::ReadCard { number, body } => {
                 let mut strike = [UNTOUCHED; 4];
-                let status = self.reading(body, |b| L::read_card(b, *number, &mut strike));
+                let status = reading(self, body, |b| L::read_card(b, *number, &mut strike));
                 outcome(status, &strike, vec![])
             }
             Call::TotalDelay { body } => {
                 let mut ticks = UNTOUCHED;
-                let status = self.reading(body, |b| L::total_delay(b, &mut ticks));
+                let status = reading(self, body, |b| L::total_delay(b, &mut ticks));
                 outcome(status, &[ticks], vec![])
             }
             Call::DamagedCard { body } => {
                 let mut card = UNTOUCHED;
-                let status = self.reading(body, |b| L::damaged_card(b, &mut card));
+                let status = reading(self, body, |b| L::damaged_card(b, &mut card));
                 outcome(status, &[card], vec![])
             }
+            Call::TuneAt { place, book } => {
+                let (mut number, mut cards) = (UNTOUCHED, UNTOUCHED);
+                let status = reading(self, book, |b| {
+                    L::tune_at(b, *place, &mut number, &mut cards)
+                });
+                outcome(status, &[number, cards], vec![])
+            }
         }
-    }
-
-    /// Lends a list to be read.
-    fn reading<T: Value>(&self, list: &[T], run: impl FnOnce(&[T]) -> u32) -> u32 {
-        let mut lent = Lent::new(list);
-        let status = run(lent.list());
-        let unchanged = lent.values(self) == list;
-        assert!(unchanged, "{self:?}\nchanges a list lent to be read");
-        status
     }
 
     /// Panics, with the call, if the implementation and the reference
@@ -308,34 +309,5 @@ fn outcome(status: u32, numbers: &[u32], lists: Vec<Vec<u16>>) -> Outcome {
         status,
         numbers,
         lists,
-    }
-}
-
-/// What lists hold: symbols, message values or bytes.
-trait Value: Copy + PartialEq + From<u8> {}
-
-impl Value for u16 {}
-impl Value for u8 {}
-
-/// A lent list, between guards.
-struct Lent<T>(Vec<T>);
-
-impl<T: Value> Lent<T> {
-    fn new(values: &[T]) -> Lent<T> {
-        let guard = GUARD.map(T::from);
-        Lent([&guard, values, &guard].concat())
-    }
-
-    fn list(&mut self) -> &mut [T] {
-        let end = self.0.len() - GUARD.len();
-        &mut self.0[GUARD.len()..end]
-    }
-
-    /// What the list holds after a call.
-    fn values(mut self, call: &Call) -> Vec<T> {
-        let values = self.list().to_vec();
-        let intact = self.0 == Lent::new(&values).0;
-        assert!(intact, "{call:?}\nwrites outside a list");
-        values
     }
 }

@@ -53,6 +53,20 @@ mod raw {
         ) -> u32;
         pub fn lucetcoral_total_delay(body: *const u8, body_len: usize, ticks: *mut u32) -> u32;
         pub fn lucetcoral_damaged_card(body: *const u8, body_len: usize, card: *mut u32) -> u32;
+        pub fn lucetcoral_tune_at(
+            book: *const u8,
+            book_len: usize,
+            place: u32,
+            number: *mut u32,
+            cards: *mut u32,
+        ) -> u32;
+        pub fn lucetcoral_list(
+            book: *const u8,
+            book_len: usize,
+            text: *mut u8,
+            text_len: usize,
+            written: *mut usize,
+        ) -> u32;
     }
 }
 
@@ -119,5 +133,15 @@ impl Library for Proved {
 
     fn damaged_card(body: &[u8], card: &mut u32) -> u32 {
         unsafe { raw::lucetcoral_damaged_card(body.as_ptr(), body.len(), card) }
+    }
+
+    fn tune_at(book: &[u8], place: u32, number: &mut u32, cards: &mut u32) -> u32 {
+        unsafe { raw::lucetcoral_tune_at(book.as_ptr(), book.len(), place, number, cards) }
+    }
+
+    fn list(book: &[u8], text: &mut [u8], written: &mut usize) -> u32 {
+        let (book, book_len) = (book.as_ptr(), book.len());
+        let (text, text_len) = (text.as_mut_ptr(), text.len());
+        unsafe { raw::lucetcoral_list(book, book_len, text, text_len, written) }
     }
 }

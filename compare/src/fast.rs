@@ -1,6 +1,7 @@
 //! A fast implementation in plain Rust, for the comparison of speed: products
 //! by logarithms, and decoding by a search over information subspaces.
 
+use crate::book::LISTING_MAX;
 use crate::library::Library;
 use crate::refusal::Refusal;
 
@@ -542,6 +543,108 @@ fn strike(bytes: &[u8; 12]) -> Result<[u32; 4], Refusal> {
     Ok([bell, force, 27 * high + low, decoded.distance])
 }
 
+/// A space and the digits of each number below 1,000, with zeros behind them.
+static FIELDS: [[u8; 4]; 1_000] = fields();
+
+const fn fields() -> [[u8; 4]; 1_000] {
+    let mut table = [[b' ', b'0', b'0', b'0']; 1_000];
+    let mut number = 0;
+    while number < 1_000 {
+        let mut rest = number;
+        let mut place = 1 + (number > 9) as usize + (number > 99) as usize;
+        while place > 0 {
+            table[number][place] = b'0' + (rest % 10) as u8;
+            rest /= 10;
+            place -= 1;
+        }
+        number += 1;
+    }
+    table
+}
+
+/// A text at the start of its room.
+struct Text<'a> {
+    room: &'a mut [u8; LISTING_MAX],
+    len: usize,
+}
+
+impl Text<'_> {
+    fn push<const N: usize>(&mut self, bytes: &[u8; N]) {
+        self.room[self.len..][..N].copy_from_slice(bytes);
+        self.len += N;
+    }
+
+    fn number(&mut self, number: usize) {
+        let count = number.checked_ilog10().map_or(1, |log| log as usize + 1);
+        let mut rest = number as u32;
+        for digit in self.room[self.len..][..count].iter_mut().rev() {
+            *digit = b'0' + (rest % 10) as u8;
+            rest /= 10;
+        }
+        self.len += count;
+    }
+
+    /// A space and a number below 1,000. Without branches, which could not be
+    /// foreseen: it writes up to two bytes past the number, so at least two
+    /// more must follow.
+    fn field(&mut self, number: u32) {
+        self.push(&FIELDS[number as usize]);
+        self.len -= usize::from(number < 10) + usize::from(number < 100);
+    }
+}
+
+fn list(book: &[u8], text: &mut Text) {
+    let entries = match contents(book) {
+        Ok(entries) => entries,
+        Err(refusal) => {
+            text.push(b"book refused ");
+            text.number(refusal.number() as usize);
+            return text.push(b"\n");
+        }
+    };
+    let (mut cards, _) = book[2 + 8 * entries.len()..].as_chunks();
+    for entry in entries {
+        let (body, rest) = cards.split_at(big_endian(&entry[6..]));
+        list_tune(big_endian(&entry[..2]), body, text);
+        cards = rest;
+    }
+}
+
+fn list_tune(number: usize, body: &[[u8; 12]], text: &mut Text) {
+    text.push(b"tune ");
+    text.number(number);
+    text.push(b" ");
+    text.number(body.len());
+    text.push(b"\n");
+    let mut ticks = 0;
+    for (number, card) in (1..).zip(body) {
+        text.number(number);
+        ticks += list_card(card, text);
+    }
+    text.push(b"ticks ");
+    text.number(ticks);
+    text.push(b"\n");
+}
+
+/// The line of a card after its number; gives back its delay.
+fn list_card(card: &[u8; 12], text: &mut Text) -> usize {
+    let delay = match strike(card) {
+        Ok(strike) => {
+            for part in strike {
+                text.field(part);
+            }
+            strike[2]
+        }
+        Err(refusal) => {
+            text.push(b" refused");
+            text.field(refusal.number());
+            0
+        }
+    };
+    text.push(b"\n");
+    delay as usize
+}
+
 /// 0, or the number of the refusal.
 fn status(run: impl FnOnce() -> Result<(), Refusal>) -> u32 {
     run().err().map_or(0, Refusal::number)
@@ -652,6 +755,28 @@ impl Library for Fast {
         status(|| {
             let place = cards(body)?.iter().position(is_damaged);
             *card = place.map_or(0, |place| place as u32 + 1);
+            Ok(())
+        })
+    }
+
+    #[inline(never)]
+    fn tune_at(book: &[u8], place: u32, number: &mut u32, cards: &mut u32) -> u32 {
+        status(|| {
+            let entry = contents(book)?.get(place as usize);
+            let entry = entry.ok_or(Refusal::NoSuchTune)?;
+            *number = big_endian(&entry[..2]) as u32;
+            *cards = big_endian(&entry[6..]) as u32;
+            Ok(())
+        })
+    }
+
+    #[inline(never)]
+    fn list(book: &[u8], text: &mut [u8], written: &mut usize) -> u32 {
+        status(|| {
+            let room = text.first_chunk_mut().ok_or(Refusal::Length)?;
+            let mut text = Text { room, len: 0 };
+            list(book, &mut text);
+            *written = text.len;
             Ok(())
         })
     }

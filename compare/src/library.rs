@@ -1,5 +1,5 @@
-//! The nine operations as the C interface has them, for the implementations
-//! that are compared with the reference.
+//! The operations as the C interface has them, for the implementations that
+//! are compared with the reference.
 
 /// Every function returns 0 when done, or the number of a refusal, which
 /// leaves the lists and the numbers that it was lent as they were.
@@ -36,4 +36,11 @@ pub trait Library {
 
     /// "Worn"; the card is 0 if none is damaged.
     fn damaged_card(body: &[u8], card: &mut u32) -> u32;
+
+    /// The tune at a place of the contents, counted from 0.
+    fn tune_at(book: &[u8], place: u32, number: &mut u32, cards: &mut u32) -> u32;
+
+    /// The listing of a book, or the line that says its refusal, at the start
+    /// of the text; the rest of the text stays as it was.
+    fn list(book: &[u8], text: &mut [u8], written: &mut usize) -> u32;
 }

@@ -129,6 +129,28 @@ fn listing_case() {
     assert_eq!(book::listing(&[0]), "book refused 5\n");
     assert_eq!(book::listing(&vec![0; 65_537]), "book refused 5\n");
     assert_eq!(book::listing(&[0, 0]), "");
+
+    assert_eq!(book::tune_at(&bytes, 0), Ok([7, 4]));
+    assert_eq!(book::tune_at(&bytes, 1), Err(Refusal::NoSuchTune));
+    assert_eq!(book::tune_at(&[0, 0], 0), Err(Refusal::NoSuchTune));
+    assert_eq!(book::tune_at(&[0], 0), Err(Refusal::BookSize));
+    assert_eq!(book::list(&bytes, 131_072), Ok(text.to_string()));
+    assert_eq!(book::list(&bytes, 131_071), Err(Refusal::Length));
+    assert_eq!(book::list(&[0], 131_071), Err(Refusal::Length));
+}
+
+/// The longest listing fits: the most lines to a byte of the book are those
+/// of tunes with one card, and the widest values, numbers and damage.
+#[test]
+fn longest_listing() {
+    let word = encode(2, &[26; 4], 6).unwrap();
+    let body = samples::body(&[samples::damaged(&mut Random::new(6), &word, 2)]);
+    let numbers = 9_999 - 3_275..=9_999;
+    let tunes: Vec<(u16, Vec<u8>)> = numbers.map(|number| (number, body.clone())).collect();
+    let text = book::listing(&samples::book(&tunes));
+    assert!(text.ends_with("tune 9999 1\n1 26 26 728 2\nticks 728\n"));
+    assert_eq!(text.len(), 36 * 3_276);
+    assert!(text.len() <= book::LISTING_MAX);
 }
 
 /// Values 2 and 3 are 27·m2 + m3, not the other way round.

@@ -3,16 +3,29 @@
 //! called through the same interface, without inlining. The lists to fill are
 //! made once and not cleared between calls.
 //!
-//! With the first three words of a row as arguments it makes only that row's
-//! calls, once each: for a tool that counts instructions.
+//! The rows of whole books, of the damage that is named: `read book` reads
+//! each card and then takes the sum of the delays; `listing in memory` makes
+//! the text; `list_book process` runs the program `list_book`, or the program
+//! `fast_listing`, from its start to its end, with the book in a file and the
+//! output in a pipe. A book has one tune of 5,460 cards, or where the damage
+//! is `0 tunes`, 3,276 tunes of one card.
+//!
+//! With the name of an operation as arguments it prints only the rows of that.
+//! With the words of a row before its times it makes only that row's calls,
+//! once each: for a tool that counts instructions.
 
+use compare::book::LISTING_MAX;
 use compare::capi::Proved;
 use compare::code::{radius, Card};
 use compare::fast::Fast;
 use compare::library::Library;
 use compare::random::Random;
 use compare::samples;
+use std::fs::{self, File};
 use std::hint::black_box;
+use std::io::Read;
+use std::path::{Path, PathBuf};
+use std::process::{self, Command, Stdio};
 use std::time::{Duration, Instant};
 
 /// How many inputs each row is measured on.
@@ -29,6 +42,9 @@ const MEASUREMENT: Duration = Duration::from_millis(1);
 /// As many cards as a book with one tune can have.
 const FULL_BOOK: usize = 5_460;
 
+/// As many tunes as a book can have.
+const MOST_TUNES: usize = 3_276;
+
 /// The damage of a row's cards.
 #[derive(Clone, Copy)]
 enum Damage {
@@ -36,15 +52,23 @@ enum Damage {
     Hopeless,
 }
 
+/// What the rows of whole books are measured on: one tune with cards of some
+/// damage, or as many tunes as there can be, of one card without damage.
+#[derive(Clone, Copy)]
+enum Book {
+    Full(Damage),
+    MostTunes,
+}
+
 fn main() {
-    if std::env::args().len() == 1 {
-        print_row(["operation", "k", "damage", "proved ns", "rust ns", "ratio"]);
-    }
+    print_row(["operation", "k", "damage", "proved ns", "rust ns", "ratio"]);
     encode_rows();
     syndrome_rows();
     rank_rows();
     decode_rows();
+    read_book_rows();
     listing_rows();
+    process_rows();
 }
 
 fn encode_rows() {
@@ -117,16 +141,109 @@ fn decode_rows() {
     }
 }
 
-/// One book of each kind, timed as a whole.
-fn listing_rows() {
+fn read_book_rows() {
     for damage in damages(2) {
-        let names = ["listing", "2", &damage.name()];
+        let names = ["read book", "2", &damage.name()];
         if !is_wanted(names) {
             continue;
         }
-        let cards = cards(2, damage, FULL_BOOK);
-        let book = samples::book(&[(1, samples::body(&cards))]);
-        row(names, 1, || list::<Proved>(&book), || list::<Fast>(&book));
+        let book = Book::Full(damage).bytes();
+        row(
+            names,
+            1,
+            || read_book::<Proved>(&book),
+            || read_book::<Fast>(&book),
+        );
+    }
+}
+
+fn listing_rows() {
+    for kind in Book::all() {
+        let names = ["listing in memory", "2", &kind.name()];
+        if !is_wanted(names) {
+            continue;
+        }
+        let book = kind.bytes();
+        let (mut proved, mut rust) = (vec![0; LISTING_MAX], vec![0; LISTING_MAX]);
+        row(
+            names,
+            1,
+            || list::<Proved>(&book, &mut proved),
+            || list::<Fast>(&book, &mut rust),
+        );
+        assert!(proved == rust, "the listings disagree");
+    }
+}
+
+fn process_rows() {
+    for kind in Book::all() {
+        let names = ["list_book process", "2", &kind.name()];
+        if !is_wanted(names) {
+            continue;
+        }
+        let (proved_program, rust_program) = (proved_program(), rust_program());
+        let book = std::env::temp_dir().join(format!("speed-{}.book", process::id()));
+        fs::write(&book, kind.bytes()).expect("a file in the temporary folder");
+        let (mut proved, mut rust) = (vec![], vec![]);
+        row(
+            names,
+            1,
+            || run(&proved_program, &book, &mut proved),
+            || run(&rust_program, &book, &mut rust),
+        );
+        assert!(proved == rust, "the programs disagree");
+        fs::remove_file(book).expect("the file that was written");
+    }
+}
+
+/// The program of the repository.
+fn proved_program() -> PathBuf {
+    let path = Path::new(env!("CARGO_MANIFEST_DIR")).join("../target/bin/list_book");
+    built(path, "rt check list_book` in the repository")
+}
+
+/// The program of this package, beside this one.
+fn rust_program() -> PathBuf {
+    let this = std::env::current_exe().expect("this program's path");
+    built(
+        this.with_file_name("fast_listing"),
+        "cargo build --release --offline`",
+    )
+}
+
+fn built(program: PathBuf, command: &str) -> PathBuf {
+    if !program.is_file() {
+        eprintln!("no {}: run `{command} first", program.display());
+        process::exit(1);
+    }
+    program
+}
+
+impl Book {
+    fn all() -> Vec<Book> {
+        let full = damages(2).into_iter().map(Book::Full);
+        full.chain([Book::MostTunes]).collect()
+    }
+
+    fn name(self) -> String {
+        match self {
+            Book::Full(damage) => damage.name(),
+            Book::MostTunes => "0 tunes".to_string(),
+        }
+    }
+
+    fn bytes(self) -> Vec<u8> {
+        match self {
+            Book::Full(damage) => {
+                let body = samples::body(&cards(2, damage, FULL_BOOK));
+                samples::book(&[(1, body)])
+            }
+            Book::MostTunes => {
+                let cards = cards(2, Damage::Rank(0), MOST_TUNES);
+                let bodies = cards.into_iter().map(|card| samples::body(&[card]));
+                samples::book(&(1..).zip(bodies).collect::<Vec<_>>())
+            }
+        }
     }
 }
 
@@ -208,8 +325,8 @@ fn decode_all<L: Library>(k: u32, cards: &[Card]) -> u64 {
     sum
 }
 
-/// What the listing program asks of the library for a book with the tune 1.
-fn list<L: Library>(book: &[u8]) -> u64 {
+/// Reads every card of a book with the tune 1, and the sum of the delays.
+fn read_book<L: Library>(book: &[u8]) -> u64 {
     let (mut tunes, mut offset, mut length) = (0, 0, 0);
     assert_eq!(L::open(book, &mut tunes), 0);
     assert_eq!(L::tune_body(book, 1, &mut offset, &mut length), 0);
@@ -225,27 +342,57 @@ fn list<L: Library>(book: &[u8]) -> u64 {
     sum + u64::from(ticks)
 }
 
-/// Whether a row is to be measured: all are, if no row is named.
+/// Lists a book; gives back the length of the listing.
+fn list<L: Library>(book: &[u8], text: &mut [u8]) -> u64 {
+    let mut written = 0;
+    assert_eq!(L::list(book, text, &mut written), 0);
+    written as u64
+}
+
+/// Runs a program on a book; gives back the length of what it printed.
+fn run(program: &Path, book: &Path, text: &mut Vec<u8>) -> u64 {
+    let mut child = Command::new(program)
+        .stdin(File::open(book).expect("the file that was written"))
+        .stdout(Stdio::piped())
+        .spawn()
+        .expect("a program that runs");
+    text.clear();
+    let mut output = child.stdout.take().expect("a pipe");
+    output.read_to_end(text).expect("what the program prints");
+    assert!(child.wait().expect("a program that ends").success());
+    text.len() as u64
+}
+
+/// The rows that are asked for: an operation, a row, or all if it is empty.
+fn wanted() -> String {
+    let words: Vec<String> = std::env::args().skip(1).collect();
+    words.join(" ")
+}
+
 fn is_wanted(names: [&str; 3]) -> bool {
-    let wanted: Vec<String> = std::env::args().skip(1).collect();
-    wanted.is_empty() || wanted == names
+    ["", names[0], &names.join(" ")].contains(&wanted().as_str())
 }
 
 /// Measures both in turn and prints a line. Each runs `calls` calls.
-fn row(names: [&str; 3], calls: usize, proved: impl Fn() -> u64, rust: impl Fn() -> u64) {
+fn row(
+    names: [&str; 3],
+    calls: usize,
+    mut proved: impl FnMut() -> u64,
+    mut rust: impl FnMut() -> u64,
+) {
     let [operation, k, damage] = names;
     assert_eq!(proved(), rust(), "{operation} {k} {damage} disagree");
-    if std::env::args().len() > 1 {
+    if wanted() == names.join(" ") {
         println!("{operation} {k} {damage}: {calls} calls");
         return;
     }
-    let (proved_repeats, rust_repeats) = (repeats(&proved), repeats(&rust));
+    let (proved_repeats, rust_repeats) = (repeats(&mut proved), repeats(&mut rust));
     let (mut proved_time, mut rust_time) = (f64::INFINITY, f64::INFINITY);
     let start = Instant::now();
     let mut rounds = 0;
     while rounds < ROUNDS || start.elapsed() < ROW {
-        proved_time = proved_time.min(time(&proved, proved_repeats));
-        rust_time = rust_time.min(time(&rust, rust_repeats));
+        proved_time = proved_time.min(time(&mut proved, proved_repeats));
+        rust_time = rust_time.min(time(&mut rust, rust_repeats));
         rounds += 1;
     }
     let (proved, rust) = (proved_time / calls as f64, rust_time / calls as f64);
@@ -262,11 +409,11 @@ fn row(names: [&str; 3], calls: usize, proved: impl Fn() -> u64, rust: impl Fn()
 
 fn print_row(cells: [&str; 6]) {
     let [operation, k, damage, proved, rust, ratio] = cells;
-    println!("{operation:<10} {k:<2} {damage:<9} {proved:>12} {rust:>12} {ratio:>7}");
+    println!("{operation:<17} {k:<2} {damage:<9} {proved:>12} {rust:>12} {ratio:>7}");
 }
 
 /// How often to run something for a measurement, found while warming up.
-fn repeats(run: &impl Fn() -> u64) -> u32 {
+fn repeats(run: &mut impl FnMut() -> u64) -> u32 {
     let start = Instant::now();
     let mut count = 0;
     while start.elapsed() < MEASUREMENT {
@@ -277,7 +424,7 @@ fn repeats(run: &impl Fn() -> u64) -> u32 {
 }
 
 /// Nanoseconds of one run.
-fn time(run: &impl Fn() -> u64, repeats: u32) -> f64 {
+fn time(run: &mut impl FnMut() -> u64, repeats: u32) -> f64 {
     let start = Instant::now();
     for _ in 0..repeats {
         black_box(run());

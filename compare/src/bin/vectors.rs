@@ -1,20 +1,13 @@
-//! Writes some hundreds of calls of the nine operations to one file, and what
-//! the reference says of each to another, a line each: `vectors CALLS ANSWERS`.
-//! `src/call.rs` has the format. The lists are short, the lines have at most
-//! `LONGEST_LINE` characters and the calls at most `MOST_BYTES` bytes, so that
-//! a program with a fixed buffer can read them.
+//! Writes the stored calls to one file, and what the reference says of each to
+//! another, a line each: `vectors CALLS ANSWERS`. `src/call.rs` has the format.
+//! The lines have at most `LONGEST_LINE` characters and the calls at most
+//! `MOST_BYTES` bytes, so that a program with a fixed buffer can read them.
 
-use compare::call::Call;
-use compare::code::Card;
-use compare::random::Random;
-use compare::samples::{self, junk};
+use compare::vectors::{calls, STORED};
 use std::{env, fs, process};
 
 const LONGEST_LINE: usize = 500;
-const MOST_BYTES: usize = 65_536;
-
-/// What lists to be filled hold before.
-const FILL: u16 = 99;
+const MOST_BYTES: usize = 65_000;
 
 fn main() {
     let arguments: Vec<String> = env::args().skip(1).collect();
@@ -22,16 +15,16 @@ fn main() {
         eprintln!("usage: vectors CALLS ANSWERS");
         process::exit(2);
     };
-    let (mut calls, mut answers) = (String::new(), String::new());
-    for call in all_calls() {
+    let (mut lines, mut answers) = (String::new(), String::new());
+    for call in calls(STORED) {
         let accepted = call.accepted();
         assert!(accepted.len() == 1, "{call:?} has more than one answer");
         assert!(call.line().len() <= LONGEST_LINE, "{call:?} is too long");
-        calls += &(call.line() + "\n");
+        lines += &(call.line() + "\n");
         answers += &(accepted[0].line() + "\n");
     }
-    assert!(calls.len() <= MOST_BYTES, "{} bytes of calls", calls.len());
-    write(calls_path, &calls);
+    assert!(lines.len() <= MOST_BYTES, "{} bytes of calls", lines.len());
+    write(calls_path, &lines);
     write(answers_path, &answers);
 }
 
@@ -40,249 +33,4 @@ fn write(path: &str, text: &str) {
         eprintln!("{path}: {error}");
         process::exit(1);
     }
-}
-
-fn all_calls() -> Vec<Call> {
-    let mut calls = paper_cases();
-    let random = &mut Random::new(1);
-    for k in 1..=5 {
-        calls.extend(message_calls(random, k));
-        calls.extend(card_calls(random, k));
-    }
-    calls.extend(book_calls(random));
-    calls.extend(body_calls(random));
-    calls
-}
-
-fn encode(k: u32, message: &[u16]) -> Call {
-    Call::Encode {
-        k,
-        message: message.to_vec(),
-        word: vec![FILL; 6],
-    }
-}
-
-fn weight(symbols: &[u16]) -> Call {
-    Call::Weight {
-        symbols: symbols.to_vec(),
-    }
-}
-
-/// With a list to fill that is as long as it should be, if k is 1 to 5.
-fn syndrome(k: u32, received: &[u16]) -> Call {
-    Call::Syndrome {
-        k,
-        received: received.to_vec(),
-        values: vec![FILL; 12u32.saturating_sub(2 * k.min(6)) as usize],
-    }
-}
-
-/// With lists to fill that are as long as they should be, if k is 1 to 5.
-fn decode(k: u32, received: &[u16]) -> Call {
-    Call::Decode {
-        k,
-        received: received.to_vec(),
-        word: vec![FILL; 6],
-        message: vec![FILL; 2 * k.min(6) as usize],
-    }
-}
-
-fn open(book: &[u8]) -> Call {
-    Call::Open {
-        book: book.to_vec(),
-    }
-}
-
-fn tune_body(book: &[u8], number: u32) -> Call {
-    Call::TuneBody {
-        number,
-        book: book.to_vec(),
-    }
-}
-
-fn read_card(body: &[u8], number: u32) -> Call {
-    Call::ReadCard {
-        number,
-        body: body.to_vec(),
-    }
-}
-
-fn total_delay(body: &[u8]) -> Call {
-    Call::TotalDelay {
-        body: body.to_vec(),
-    }
-}
-
-fn damaged_card(body: &[u8]) -> Call {
-    Call::DamagedCard {
-        body: body.to_vec(),
-    }
-}
-
-/// The paper's cases, with and without a star, and its book.
-fn paper_cases() -> Vec<Call> {
-    let cards = [
-        [1, 3, 9, 27, 81, 243],
-        [3, 279, 233, 650, 423, 163],
-        [2, 3, 9, 27, 81, 243],
-        [729, 3, 9, 27, 81, 243],
-    ];
-    let body = samples::body(&cards);
-    let book = samples::book(&[(7, body.clone())]);
-    let mut calls = vec![
-        encode(1, &[1, 0]),
-        encode(1, &[0, 1]),
-        encode(2, &[0, 1, 0, 0]),
-        encode(2, &[0, 0, 0, 1]),
-        decode(1, &[1, 3, 9, 0, 0, 0]),
-        decode(2, &[1, 3, 0, 0, 0, 0]),
-        decode(3, &[1, 3, 0, 0, 0, 0]),
-        decode(3, &[1, 0, 0, 0, 0, 0]),
-        decode(4, &[1; 6]),
-        decode(5, &[1, 0, 0, 0, 0, 0]),
-        weight(&[728; 6]),
-        weight(&[729, 0, 0, 0, 0, 0]),
-        encode(1, &[26, 26]),
-        encode(1, &[26, 27]),
-        open(&[0]),
-        open(&[0, 0]),
-        open(&[0, 0, 0]),
-        open(&book),
-        tune_body(&book, 7),
-        total_delay(&body),
-    ];
-    for k in [0, 6, u32::MAX] {
-        calls.extend([
-            encode(k, &vec![0; 2 * k.min(6) as usize]),
-            syndrome(k, &[0; 6]),
-            decode(k, &[0; 6]),
-        ]);
-    }
-    calls.extend((0..=5).map(|number| read_card(&body, number)));
-    calls
-}
-
-fn message_calls(random: &mut Random, k: u32) -> Vec<Call> {
-    let message = || samples::message(&mut Random::new(u64::from(k)), k);
-    let mut calls = vec![];
-    for _ in 0..10 {
-        calls.push(encode(k, &samples::message(random, k)));
-    }
-    for value in [26, 27, 65_535] {
-        let mut message = message();
-        *message.last_mut().expect("a message") = value;
-        calls.push(encode(k, &message));
-    }
-    calls.push(encode(k, &message()[1..]));
-    calls.push(encode(k, &[message(), vec![27]].concat()));
-    for word_len in [5, 7] {
-        calls.push(Call::Encode {
-            k,
-            message: message(),
-            word: junk(random, word_len),
-        });
-    }
-    calls
-}
-
-fn card_calls(random: &mut Random, k: u32) -> Vec<Call> {
-    let mut cards: Vec<Card> = vec![];
-    for damage in [0, 0, 0, 0, 1, 1, 1, 1, 2, 2, 2, 2, 3, 3, 4, 5, 6] {
-        cards.push(samples::sent(random, k, damage).received);
-    }
-    cards.extend((0..4).map(|_| samples::card(random)));
-    cards.extend((0..2).map(|_| samples::sparse_card(random)));
-    cards.extend((0..2).map(|_| samples::small_field_damage(random, k)));
-    for symbol in [728, 729, 65_535] {
-        let mut card = samples::sent(random, k, 0).word;
-        card[random.below(6) as usize] = symbol;
-        cards.push(card);
-    }
-    let mut calls = vec![];
-    for card in &cards {
-        calls.push(decode(k, card));
-    }
-    for card in cards.iter().step_by(2) {
-        calls.extend([weight(card), syndrome(k, card)]);
-    }
-    calls.extend(wrong_lengths(random, k));
-    calls
-}
-
-fn wrong_lengths(random: &mut Random, k: u32) -> Vec<Call> {
-    let (message_len, values_len) = (2 * k as usize, 12 - 2 * k as usize);
-    let mut calls = vec![weight(&[0; 5]), weight(&[729; 7])];
-    for [card, other] in [[5, 0], [7, 0], [6, 1]] {
-        calls.push(Call::Syndrome {
-            k,
-            received: random.numbers(card, 1_000),
-            values: junk(random, values_len + other),
-        });
-    }
-    for [card, word, other] in [[5, 6, 0], [6, 7, 0], [6, 6, 1]] {
-        calls.push(Call::Decode {
-            k,
-            received: random.numbers(card, 1_000),
-            word: junk(random, word),
-            message: junk(random, message_len + other),
-        });
-    }
-    calls
-}
-
-fn words(random: &mut Random, count: usize) -> Vec<Card> {
-    (0..count)
-        .map(|_| samples::sent(random, 2, 0).word)
-        .collect()
-}
-
-fn book_calls(random: &mut Random) -> Vec<Call> {
-    let tunes: Vec<(u16, Vec<u8>)> = [(3, 1), (700, 3), (9_999, 2)]
-        .map(|(number, cards)| (number, samples::body(&words(random, cards))))
-        .to_vec();
-    let book = samples::book(&tunes);
-    let mut calls = vec![open(&book)];
-    for number in [0, 2, 3, 4, 700, 9_999, 10_000, 65_539] {
-        calls.push(tune_body(&book, number));
-    }
-    for len in [2, 3, 9, 10, 25, 26, 27, book.len() - 12, book.len() - 1] {
-        calls.push(open(&book[..len]));
-    }
-    calls.push(open(&[book.clone(), vec![0]].concat()));
-    for numbers in [[0, 1], [3, 3], [4, 3], [256, 255], [9_999, 10_000]] {
-        let tunes = numbers.map(|number| (number, vec![0; 12]));
-        calls.push(open(&samples::book(&tunes)));
-    }
-    // Faults in each byte of the contents.
-    for place in 0..26 {
-        let mut faulty = book.clone();
-        faulty[place] ^= *random.pick(&[1, 2, 16, 128, 255]);
-        calls.push(open(&faulty));
-        calls.push(tune_body(&faulty, 700));
-    }
-    calls
-}
-
-fn body_calls(random: &mut Random) -> Vec<Call> {
-    let mut calls = vec![];
-    for damage in 0..24 {
-        let mut cards = words(random, 4);
-        let place = random.below(4) as usize;
-        cards[place] = samples::damaged(random, &cards[place], damage % 4);
-        if damage > 20 {
-            cards[place][damage as usize % 6] = 729;
-        }
-        let body = samples::body(&cards);
-        calls.extend([1 + place as u32, 1, 4].map(|number| read_card(&body, number)));
-        calls.extend([total_delay(&body), damaged_card(&body)]);
-    }
-    let body = samples::body(&words(random, 3));
-    for len in [0, 1, 11, 12, 13, 24, 35] {
-        let body = &body[..len];
-        calls.extend([read_card(body, 1), total_delay(body), damaged_card(body)]);
-    }
-    for number in [0, 3, 4, 65_537, u32::MAX] {
-        calls.push(read_card(&body, number));
-    }
-    calls
 }

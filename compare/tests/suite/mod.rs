@@ -1,9 +1,10 @@
-//! The comparison of an implementation with the reference, on all nine
-//! operations: random inputs, damage of every rank, and every boundary.
+//! The comparison of an implementation with the reference, on all operations:
+//! random inputs, damage of every rank, and every boundary.
 
-use compare::book::{LONGEST_BODY, LONGEST_BOOK};
+use compare::book::{self, LISTING_MAX, LONGEST_BODY, LONGEST_BOOK};
 use compare::call::{Call, Outcome};
-use compare::code::{radius, Card};
+use compare::code::{self, radius, Card};
+use compare::lent::{reading, Lent};
 use compare::library::Library;
 use compare::random::Random;
 use compare::samples::{self, junk};
@@ -273,6 +274,17 @@ fn numbers_in(book: &[u8]) -> Vec<u32> {
         .collect()
 }
 
+/// Places of a book's contents, and others: some are a place in their low 16
+/// bits, or after a product by the 8 bytes of an entry.
+fn places_in(book: &[u8]) -> [u32; 8] {
+    let count = match book {
+        [high, low, ..] => u32::from(*high) << 8 | u32::from(*low),
+        _ => 0,
+    };
+    let last = count.saturating_sub(1);
+    [0, 1, last, count, 65_536, 1 << 29, 1 << 31, u32::MAX]
+}
+
 /// Opens a book, and asks for its tunes, their neighbours, and others.
 fn check_book<L: Library>(book: Vec<u8>) {
     let mut numbers = vec![0, 1, 9_999, 10_000, 65_536, u32::MAX];
@@ -283,6 +295,10 @@ fn check_book<L: Library>(book: Vec<u8>) {
     for number in numbers {
         let book = book.clone();
         Call::TuneBody { number, book }.check::<L>();
+    }
+    for place in places_in(&book) {
+        let book = book.clone();
+        Call::TuneAt { place, book }.check::<L>();
     }
 }
 
@@ -318,6 +334,11 @@ pub fn book_faults<L: Library>() {
                 let mut book = book.clone();
                 book[place] = byte;
                 Call::Open { book: book.clone() }.check::<L>();
+                Call::TuneAt {
+                    place: random.below(6) as u32,
+                    book: book.clone(),
+                }
+                .check::<L>();
                 let numbers = numbers_in(&book);
                 if !numbers.is_empty() {
                     let number = *random.pick(&numbers);
@@ -451,7 +472,7 @@ pub fn large_bodies<L: Library>() {
     let all = strike_cards(&mut random, 200);
     let whole = whole_cards(&mut random, 200);
     let longest = LONGEST_BODY / 12;
-    let slowest = compare::code::encode(2, &[26; 4], 6).expect("a message");
+    let slowest = code::encode(2, &[26; 4], 6).expect("a message");
     let mut bodies = vec![
         body_of(&mut random, &all, longest),
         body_of(&mut random, &whole, longest),
@@ -476,6 +497,126 @@ pub fn large_bodies<L: Library>() {
         }
         Call::TotalDelay { body: body.clone() }.check::<L>();
         Call::DamagedCard { body }.check::<L>();
+    }
+}
+
+/// What the written length holds before a call.
+const UNWRITTEN: usize = 2_718_281_828;
+
+/// Lists a book into a text that holds something before.
+fn check_listing<L: Library>(book: &[u8], before: &[u8]) {
+    let call = format!("{} bytes, {:?} ..", book.len(), &book[..book.len().min(50)]);
+    let (mut text, mut written) = (Lent::new(before), UNWRITTEN);
+    let status = reading(&call, book, |b| L::list(b, text.list(), &mut written));
+    let text = text.values(&call);
+    let (expected_status, listing, expected_written) = match book::list(book, before.len()) {
+        Ok(listing) => (0, listing.clone(), listing.len()),
+        Err(refusal) => (refusal.number(), String::new(), UNWRITTEN),
+    };
+    assert_eq!(
+        (status, written),
+        (expected_status, expected_written),
+        "{call}"
+    );
+    let (listed, rest) = text.split_at(listing.len());
+    if listed != listing.as_bytes() {
+        assert_eq!(String::from_utf8_lossy(listed), listing, "{call}");
+    }
+    let unchanged = rest == &before[listing.len()..];
+    assert!(unchanged, "{call}\nchanges the text past the listing");
+}
+
+/// The card with the widest values, and damage.
+fn widest_card(random: &mut Random) -> Card {
+    let word = code::encode(2, &[26; 4], 6).expect("a message");
+    samples::damaged(random, &word, 2)
+}
+
+/// A book of tunes with these cards each, and the highest numbers.
+fn high_numbers(count: u16, body: &[u8]) -> Vec<u8> {
+    let numbers = 10_000 - count..10_000;
+    let tunes: Vec<(u16, Vec<u8>)> = numbers.map(|number| (number, body.to_vec())).collect();
+    samples::book(&tunes)
+}
+
+pub fn listings<L: Library>() {
+    let mut random = Random::new(1_200);
+    let before = random.bytes(LISTING_MAX);
+    let cards = strike_cards(&mut random, 300);
+    for _ in 0..1_000 {
+        check_listing::<L>(&small_book(&mut random, &cards), &before);
+    }
+    for len in 0..100 {
+        check_listing::<L>(&random.bytes(len), &before);
+        check_listing::<L>(&vec![0; len], &before);
+    }
+    for _ in 0..20 {
+        let book = small_book(&mut random, &cards);
+        for len in 0..book.len() {
+            check_listing::<L>(&book[..len], &before);
+        }
+    }
+}
+
+/// Single-byte faults in the contents.
+pub fn listing_faults<L: Library>() {
+    let mut random = Random::new(1_300);
+    let before = random.bytes(LISTING_MAX);
+    let cards = strike_cards(&mut random, 50);
+    for _ in 0..40 {
+        let book = small_book(&mut random, &cards);
+        for place in 0..book.len().min(2 + 8 * 6) {
+            for flip in [1, 2, 128, 255, 1 + random.below(255) as u8] {
+                let mut book = book.clone();
+                book[place] ^= flip;
+                check_listing::<L>(&book, &before);
+            }
+        }
+    }
+}
+
+pub fn large_listings<L: Library>() {
+    let mut random = Random::new(1_400);
+    let before = random.bytes(LISTING_MAX);
+    let all = strike_cards(&mut random, 200);
+    let widest = widest_card(&mut random);
+    for cards in [&all, &whole_cards(&mut random, 200), &vec![widest]] {
+        for number in [1, 9_999] {
+            let body = body_of(&mut random, cards, 5_460);
+            check_listing::<L>(&samples::book(&[(number, body)]), &before);
+        }
+        let bodies = [1, 5_457, 1].map(|count| body_of(&mut random, cards, count));
+        let [first, second, third] = bodies;
+        let book = samples::book(&[(1, first), (5_000, second), (9_999, third)]);
+        for extra in [0, 1, 2, 3, 200_000] {
+            check_listing::<L>(&[book.clone(), vec![0; extra]].concat(), &before);
+        }
+        for [tunes, cards_each] in [[3_276, 1], [2_047, 2], [409, 12]] {
+            let body = body_of(&mut random, cards, cards_each);
+            check_listing::<L>(&high_numbers(tunes as u16, &body), &before);
+        }
+    }
+}
+
+/// Texts of other lengths: shorter ones are refused, whatever the book.
+pub fn listing_lengths<L: Library>() {
+    let mut random = Random::new(1_500);
+    let widest = widest_card(&mut random);
+    let books = [
+        vec![],
+        vec![0, 0],
+        vec![0, 0, 0],
+        samples::book(&[(7, samples::body(&[widest]))]),
+        // The longest listing there is.
+        high_numbers(3_276, &samples::body(&[widest])),
+        vec![0; LONGEST_BOOK + 1],
+    ];
+    let short = [0, 1, 15, 16, 50, 65_536, 117_936, LISTING_MAX - 1];
+    let long = [0, 1, 2, 100, LISTING_MAX].map(|extra| LISTING_MAX + extra);
+    for book in books {
+        for len in short.into_iter().chain(long) {
+            check_listing::<L>(&book, &random.bytes(len));
+        }
     }
 }
 
@@ -561,6 +702,26 @@ macro_rules! suite {
         #[test]
         fn large_bodies() {
             suite::large_bodies::<$library>();
+        }
+
+        #[test]
+        fn listings() {
+            suite::listings::<$library>();
+        }
+
+        #[test]
+        fn listing_faults() {
+            suite::listing_faults::<$library>();
+        }
+
+        #[test]
+        fn large_listings() {
+            suite::large_listings::<$library>();
+        }
+
+        #[test]
+        fn listing_lengths() {
+            suite::listing_lengths::<$library>();
         }
     };
 }

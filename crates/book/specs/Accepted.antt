@@ -1,5 +1,6 @@
 -- A book that Open accepts: its bodies lie one after another and fill the file, and its tune numbers rise. Assumes nothing.
--- Main: first-begins, parts-adjoin, parts-apart, part-within, part-length, part-some, last-ends, part-good; number-range, numbers-rise, one-entry.
+-- Main: Accepted-entry, book-within, entries-within; first-begins, parts-adjoin, parts-apart, part-within, part-length, part-some, last-ends,
+-- part-good; number-range, numbers-rise, one-entry.
 use mathlib.Core.Path.{_≡_, refl, sym, _∙_, ap}
 use mathlib.Core.Bool.{Bool, true, false, _&&_, _||_, cond, true≢false, and-eq-true-iff}
 use mathlib.Core.List.{List}
@@ -13,13 +14,17 @@ use lib.Seq.{length-take-le}
 use borrow.Author.Tests.{ltb-false, leb-true, eqb-true, not-false, le-leb, eq-eqb}
 use Rattle.refusal.specs.Answers.{number}
 use Rattle.refusal.specs.declared.Refusal.the-variants.{BookSize, TuneNumber, Layout}
-use Rattle.book.specs.Layout.{tunes, contents-end, tune-number, offset, cards, part-of, body-good}
+use Rattle.book.specs.Layout.{longest-book, tunes, contents-end, Entries-within, tune-number, offset, cards, part-of, body-good}
 use Rattle.book.specs.Open.{size-bad, numbers-bad, bodies-bad, open-refusal}
 use Rattle.book.specs.Loops.{numbers-on, numbers-start, numbers-next, bodies-on, bodies-start, bodies-next, bodies-end}
 
 -- a book that Open accepts
 abbrev pub Accepted : List ℕ → Type 0
 Accepted bs = open-refusal bs ≡ 0
+
+-- and an entry of its contents, counted from 0
+abbrev pub Accepted-entry : List ℕ → (e : ℕ) → Type 0
+Accepted-entry bs e = Accepted bs × (e < tunes bs)
 
 -- THE THREE TESTS
 pub record Tested (bs : List ℕ) : Type 0 where
@@ -42,17 +47,21 @@ pub neither : (a b : Bool) → (a || b) ≡ false → (a ≡ false) × (b ≡ fa
 neither true b e = absurd (true≢false e)
 neither false b e = (refl, e)
 
--- at most 65,536 bytes, and the contents lies within them
-pub size-within : (bs : List ℕ) → size-bad bs ≡ false → (length bs ≤ 65536) × (contents-end (tunes bs) ≤ length bs)
+-- at most 65,536 bytes, the count of tunes is there, and so is each entry
+pub size-within : (bs : List ℕ) → size-bad bs ≡ false → (length bs ≤ longest-book) × (2 ≤ length bs) × Entries-within bs
 unfolding size-bad
 size-within bs e =
     let short = ltb (length bs) (contents-end (tunes bs)) in
-    let f = neither (ltb 65536 (length bs)) (ltb (length bs) 2 || short) e in
+    let f = neither (ltb longest-book (length bs)) (ltb (length bs) 2 || short) e in
     let g = neither (ltb (length bs) 2) short (f .1) in
-    (ltb-false 65536 (length bs) (f .0), ltb-false (length bs) (contents-end (tunes bs)) (g .1))
+    let h = ltb-false (length bs) (contents-end (tunes bs)) (g .1) in
+    (ltb-false longest-book (length bs) (f .0), ltb-false (length bs) 2 (g .0), λ i k. omega arith)
 
-pub contents-within : (bs : List ℕ) → Accepted bs → contents-end (tunes bs) ≤ length bs
-contents-within bs a = size-within bs (tested bs a .size) .1
+pub book-within : (bs : List ℕ) → Accepted bs → length bs ≤ longest-book
+book-within bs a = size-within bs (tested bs a .size) .0
+
+pub entries-within : (bs : List ℕ) → Accepted bs → Entries-within bs
+entries-within bs a = size-within bs (tested bs a .size) .2
 
 -- BODIES. Where those before entry e end
 unfoldable pub body-start : List ℕ → (e : ℕ) → ℕ
@@ -134,7 +143,7 @@ module _ (bs : List ℕ) (a : Accepted bs) where
       let c = cards bs e in
       let k : n ≡ 12 * c = part-length e h in
       let w = part-within e h in
-      let s = size-within bs (tested bs a .size) .0 in
+      let s = book-within bs a in
       let f : 10 ≤ offset bs e = rw (offset-is e h) (omega (arith, start-rises bs 0 e (omega arith))) in
       rw (le-leb n 65532 (omega arith), eq-eqb (n % 12) 0 (omega arith))
 

@@ -23,7 +23,7 @@ use Rattle.book.specs.declared.reading.Reading.the-variants as readings
 use Rattle.book.specs.declared.bodies.Worn.the-variants.{Card, Nothing, Refused}
 use Rattle.book.specs.Layout.{body-good}
 use Rattle.book.specs.Reading.{spoken, only, cards-in, reading}
-use Rattle.book.specs.Cards.{delay-small}
+use Rattle.book.specs.Bounds.{reading-bounded}
 use Rattle.book.specs.Bodies.{body-refusal, delays-from, total-delay, flawed, is-damaged, Shown, shown, Named, Worn-shows}
 
 pub good-length : (bs : List ℕ) → body-good bs ≡ true → length bs ≤ 65532
@@ -61,7 +61,7 @@ module _ (bs : List ℕ) (total n : ℕ) (a : Adding bs total n) where
   adding-next d h e = record {
     low = omega arith;
     within = omega arith;
-    small = omega (arith, a .small, delay-small bs n);
+    small = omega (arith, a .small, reading-bounded bs n .delay);
     whole = omega (arith, a .whole, delays-next bs n h);
   }
 
@@ -70,7 +70,7 @@ module _ (bs : List ℕ) (total n : ℕ) (a : Adding bs total n) where
   adding-fits good d h e =
       let l = good-length bs good in
       let f : n ≤ 5461 = omega arith in
-      (f, omega (arith, a .small, delay-small bs n))
+      (f, omega (arith, a .small, reading-bounded bs n .delay))
 
   pub adding-end : cards-in bs < n → total ≡ total-delay bs
   adding-end h = omega (arith, a .whole, delays-end bs n h)

@@ -1,10 +1,10 @@
 -- Cards where they lie, and what is read of them, in the terms of the code. Assumes nothing.
 -- Main: symbols-six, card-part, said-range, said-lost, said-struck, said-none, found-message, said-found, card-passes, read-bad, read-past,
--- read-there, card-there, there-card, decoded-message, value-small, delay-small.
-use mathlib.Core.Path.{_≡_, refl, sym, _∙_, ap}
-use mathlib.Core.Bool.{Bool, true, false, not, cond}
+-- read-there, card-there, there-card, decoded-message, value-small.
+use mathlib.Core.Path.{_≡_, sym, _∙_, ap}
+use mathlib.Core.Bool.{Bool, true, false, not}
 use mathlib.Core.List.{List, [], _∷_}
-use mathlib.Core.Option.{Option, none, some}
+use mathlib.Core.Option.{none, some}
 use Prim.Native.Nat.{ℕ, suc, _+_, _*_, _-_, _≤_, _<_}
 use native.Mathlib.Omega.{arith}
 use lib.Dec.{ltb, eqb}
@@ -22,7 +22,7 @@ use Rattle.codec.specs.Answers.{undecodable, found, decoded-word}
 use Rattle.candidate.specs.declared.found.Found.{Found}
 use Rattle.candidate.specs.Finding.{answer, Whole, answer-some, answer-none}
 use Rattle.book.specs.Layout.{big, body-good, symbols-from, card}
-use Rattle.book.specs.Reading.{delay-of, only, struck, card-refusal, said, cards-in, no-card, read-refusal, reading}
+use Rattle.book.specs.Reading.{only, struck, card-refusal, said, cards-in, no-card, read-refusal, reading}
 use Rattle.book.specs.Accepted.{neither}
 
 -- TWELVE BYTES
@@ -99,33 +99,10 @@ pub there-card : (bs : List ℕ) (n : ℕ) → 1 ≤ n → n ≤ cards-in bs →
 unfolding no-card
 there-card bs n a b = rw (ne-eqb n 0 (λ e. omega arith), le-ltb (cards-in bs) n b)
 
--- VALUES are at most 26, so a delay is at most 728 ticks
+-- VALUES of a message that was found are at most 26
 pub decoded-message : (c m : List ℕ) → decode 2 c ≡ some m → is-message 2 m ≡ true
 decoded-message c m e = answer-near (decode-answers 2 c) e .message
 
 pub value-small : (m : List ℕ) → is-message 2 m ≡ true → (i : ℕ) → i < 4 → at m i < 27
 unfolding is-message at
 value-small m e i h = let t = passed 4 26 m e in all-at (λ x. x < 27) 0 m (t .1) i (omega (arith, t .0))
-
-none-at : (i : ℕ) → at [] i ≡ 0
-unfolding at
-none-at i = refl
-
-delay-within : (c : List ℕ) (o : Option (List ℕ)) → decode 2 c ≡ o → delay-of (found o) ≤ 728
-unfolding found delay-of
-delay-within c none e = let high = none-at 2 in let low = none-at 3 in omega arith
-delay-within c (some m) e =
-    let high = value-small m (decoded-message c m e) 2 (omega arith) in
-    let low = value-small m (decoded-message c m e) 3 (omega arith) in
-    omega arith
-
-pub delay-small : (bs : List ℕ) (n : ℕ) → reading bs n .delay ≤ 728
-unfolding reading said only struck
-delay-small bs n = go (eqb (read-refusal bs n) 0)
-  where
-    c : List ℕ
-    c = card bs n
-
-    go : (b : Bool) → cond b (struck (found (decode 2 c)) (apart (decoded-word 2 c) c)) (only (read-refusal bs n)) .delay ≤ 728
-    go true = delay-within c (decode 2 c) refl
-    go false = omega arith

@@ -1,11 +1,15 @@
 -- Where everything lies in a tune book (document 01: Tune book): the numbers, the entries of the contents, the bodies, the cards. A book is
 -- the list of its bytes. Assumes nothing: these are definitions.
--- Main: tunes, tune-number, offset, cards, part-of, card.
+-- Main: longest-book, tunes, tune-number, offset, cards, part-of, card.
 use mathlib.Core.Bool.{Bool, _&&_}
 use mathlib.Core.List.{List, [], _∷_}
-use Prim.Native.Nat.{ℕ, zero, suc, _+_, _*_, _-_, _%_}
+use Prim.Native.Nat.{ℕ, zero, suc, _+_, _*_, _-_, _%_, _≤_, _<_}
 use lib.Dec.{leb, eqb}
 use lib.ListN.{length, getD, take, drop}
+
+-- a book has at most this many bytes
+abbrev pub longest-book : ℕ
+longest-book = 65536
 
 -- two bytes, and four, as a number: the high byte first
 unfoldable pub big : List ℕ → (at : ℕ) → ℕ
@@ -21,6 +25,10 @@ tunes bs = big bs 0
 -- where n entries end
 abbrev pub contents-end : (n : ℕ) → ℕ
 contents-end n = 2 + 8 * n
+
+-- the bytes of each entry are there
+abbrev pub Entries-within : List ℕ → Type 0
+Entries-within bs = (e : ℕ) → e < tunes bs → contents-end (e + 1) ≤ length bs
 
 -- of entry e, counted from 0: its tune number (2 bytes), the offset of its body from the file's start (4), its count of cards (2)
 abbrev pub tune-number : List ℕ → (e : ℕ) → ℕ

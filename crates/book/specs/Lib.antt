@@ -13,5 +13,6 @@ pub mod Accepted
 pub mod Pulled
 -- What is read of a body
 pub mod Cards
+pub mod Bounds
 pub mod CardLoops
 pub mod Strikes

@@ -7,11 +7,11 @@ use lib.Dec.{ltb, leb, eqb}
 use lib.ListN.{length}
 use Rattle.refusal.specs.Answers.{number}
 use Rattle.refusal.specs.declared.Refusal.the-variants.{BookSize, TuneNumber, Layout}
-use Rattle.book.specs.Layout.{tunes, contents-end, tune-number, offset, cards}
+use Rattle.book.specs.Layout.{longest-book, tunes, contents-end, tune-number, offset, cards}
 
 -- over 65,536 bytes, under 2, or under 2 + 8N
 unfoldable pub size-bad : List ℕ → Bool
-size-bad bs = ltb 65536 (length bs) || (ltb (length bs) 2 || ltb (length bs) (contents-end (tunes bs)))
+size-bad bs = ltb longest-book (length bs) || (ltb (length bs) 2 || ltb (length bs) (contents-end (tunes bs)))
 
 -- `left` tune numbers from entry e on are at least `least`, at most 9,999, and strictly rising
 unfoldable pub numbers-good : (left e : ℕ) → (least : ℕ) → List ℕ → Bool

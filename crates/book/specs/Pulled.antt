@@ -1,5 +1,5 @@
 -- Pull leads to each tune of an accepted book, and to nothing else. Assumes nothing.
--- Main: pulls-each, pulls-only, refused-empty, empty-refused, pulled-good.
+-- Main: pulls-each, There, pulls-only, refused-empty, empty-refused, refused-from, pulled-good.
 use mathlib.Core.Path.{_≡_, refl, sym, _∙_, ap}
 use mathlib.Core.Bool.{Bool, true, false, cond}
 use mathlib.Core.List.{List, []}
@@ -12,11 +12,11 @@ use lib.ListN.{length}
 use borrow.Author.Tests.{eqb-true, eq-eqb, ne-eqb}
 use Rattle.refusal.specs.Answers.{number}
 use Rattle.refusal.specs.declared.Refusal.the-variants.{NoSuchTune}
-use Rattle.book.specs.Layout.{tunes, tune-number, part-of, body-good}
+use Rattle.book.specs.Layout.{tunes, tune-number, offset, part-of, body-good}
 use Rattle.book.specs.Open.{open-refusal}
-use Rattle.book.specs.Pull.{entry-from, entry-of, missing, part-at, pull-refusal, pulled, offset-at, pulled-from}
+use Rattle.book.specs.Pull.{entry-from, entry-of, missing, place-at, part-at, pull-refusal, pulled, offset-at, pulled-from}
 use Rattle.book.specs.Loops.{entry-on, entry-start, entry-next}
-use Rattle.book.specs.Accepted.{Accepted, numbers-rise, part-some, part-good}
+use Rattle.book.specs.Accepted.{Accepted, Accepted-entry, numbers-rise, part-some, part-good}
 
 -- AS OPEN, THEN BY THE ENTRY
 pub pull-accepted : (bs : List ℕ) (t : ℕ) → Accepted bs → pull-refusal bs t ≡ missing (entry-of bs t)
@@ -77,46 +77,56 @@ pulls-each bs a e h =
     let t = tune-number bs e in
     (pull-accepted bs t a ∙ ap missing (entry-there bs a e h), pulled-accepted bs t a ∙ ap (part-at bs) (entry-there bs a e h))
 
--- the tune is there: an entry of an accepted book bears the number, and its part is what Pull gives back
-pub record There (bs : List ℕ) (t : ℕ) : Type 0 where
-  pub accepted : Accepted bs
-  pub entry : ℕ
-  pub within : entry < tunes bs
-  pub bears : tune-number bs entry ≡ t
-  pub part : pulled bs t ≡ part-of bs entry
+-- the tune is there: entry e of an accepted book bears the number, and its part is what Pull gives back
+pub record There (bs : List ℕ) (t e : ℕ) : Type 0 where
+  pub held : Accepted-entry bs e
+  pub bears : tune-number bs e ≡ t
+  pub part : pulled bs t ≡ part-of bs e
+  pub begins : pulled-from bs t ≡ offset bs e
 
 -- either the tune is there, or Pull refuses and gives back nothing
 data Pulls (bs : List ℕ) (t : ℕ) : Type 0 where
-  there : pull-refusal bs t ≡ 0 → There bs t → Pulls bs t
-  refused : (pull-refusal bs t ≡ 0 → ⊥) → pulled bs t ≡ [] → Pulls bs t
+  there : pull-refusal bs t ≡ 0 → There bs t (place-at (entry-of bs t)) → Pulls bs t
+  refused : (pull-refusal bs t ≡ 0 → ⊥) → pulled bs t ≡ [] → pulled-from bs t ≡ 0 → Pulls bs t
 
 pulls : (bs : List ℕ) (t : ℕ) → Pulls bs t
 pulls bs t =
-    elim (ℕ-discrete (open-refusal bs) 0)
-    [ yes a ↦ go a (entry-of bs t) refl | no n ↦ refused (λ r. n (sym (pull-refused bs t n) ∙ r)) (pulled-refused bs t n) ]
+    elim (ℕ-discrete (open-refusal bs) 0) [
+      | yes a ↦ go a (entry-of bs t) refl
+      | no n ↦ refused (λ r. n (sym (pull-refused bs t n) ∙ r)) (pulled-refused bs t n) (pulled-from-refused bs t n)
+    ]
   where
     go : Accepted bs → (o : Option ℕ) → entry-of bs t ≡ o → Pulls bs t
     go a none q =
-        refused (λ r. let z : number NoSuchTune ≡ 0 = sym (pull-accepted bs t a ∙ ap missing q) ∙ r in omega arith) (pulled-accepted bs t a ∙ ap (part-at bs) q)
+        refused (λ r. let z : number NoSuchTune ≡ 0 = sym (pull-accepted bs t a ∙ ap missing q) ∙ r in omega arith)
+        (pulled-accepted bs t a ∙ ap (part-at bs) q)
+        (pulled-from-accepted bs t a ∙ ap (offset-at bs) q)
     go a (some e) q =
         let f = entry-found bs t e q in
-        there (pull-accepted bs t a ∙ ap missing q)
-        (record { accepted = a; entry = e; within = f .0; bears = f .1; part = pulled-accepted bs t a ∙ ap (part-at bs) q })
+        there (pull-accepted bs t a ∙ ap missing q) (rw q (record {
+          held = (a, f .0);
+          bears = f .1;
+          part = pulled-accepted bs t a ∙ ap (part-at bs) q;
+          begins = pulled-from-accepted bs t a ∙ ap (offset-at bs) q;
+        }))
 
-pub pulls-only : (bs : List ℕ) (t : ℕ) → pull-refusal bs t ≡ 0 → There bs t
-pulls-only bs t r = elim (pulls bs t) [ there p h ↦ h | refused n e ↦ absurd (n r) ]
+pub pulls-only : (bs : List ℕ) (t : ℕ) → pull-refusal bs t ≡ 0 → There bs t (place-at (entry-of bs t))
+pulls-only bs t r = elim (pulls bs t) [ there p h ↦ h | refused n e b ↦ absurd (n r) ]
 
 -- the part is empty exactly on a refusal
 pub refused-empty : (bs : List ℕ) (t : ℕ) → (pull-refusal bs t ≡ 0 → ⊥) → pulled bs t ≡ []
-refused-empty bs t n = elim (pulls bs t) [ there p h ↦ absurd (n p) | refused m e ↦ e ]
+refused-empty bs t n = elim (pulls bs t) [ there p h ↦ absurd (n p) | refused m e b ↦ e ]
+
+pub refused-from : (bs : List ℕ) (t : ℕ) → (pull-refusal bs t ≡ 0 → ⊥) → pulled-from bs t ≡ 0
+refused-from bs t n = elim (pulls bs t) [ there p h ↦ absurd (n p) | refused m e b ↦ b ]
 
 pub empty-refused : (bs : List ℕ) (t : ℕ) → pulled bs t ≡ [] → pull-refusal bs t ≡ 0 → ⊥
 empty-refused bs t e r =
     let h = pulls-only bs t r in
-    omega (arith, ap length (sym (h .part) ∙ e), part-some bs (h .accepted) (h .entry) (h .within))
+    omega (arith, ap length (sym (h .part) ∙ e), part-some bs (h .held .0) _ (h .held .1))
 
 -- what Pull gives back is a body that Read takes
 pub pulled-good : (bs : List ℕ) (t : ℕ) → body-good (pulled bs t) ≡ true
 unfolding body-good
 pulled-good bs t =
-    elim (pulls bs t) [ there p h ↦ rw (h .part) (part-good bs (h .accepted) (h .entry) (h .within)) | refused n e ↦ rw e ]
+    elim (pulls bs t) [ there p h ↦ rw (h .part) (part-good bs (h .held .0) _ (h .held .1)) | refused n e b ↦ rw e ]

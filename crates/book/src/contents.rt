@@ -1,9 +1,7 @@
 // Open: whether a file is a tune book, tested in the order of document 01.
 // Assumes nothing.
 ghost use mathlib.Core.Path.{_≡_};
-ghost use Prim.Native.Nat.{_≤_};
-ghost use lib.ListN.{length};
-ghost use Rattle.book.specs.Layout.{tunes, contents-end};
+ghost use Rattle.book.specs.Layout.{tunes, Entries-within};
 ghost use Rattle.book.specs.Open.{size-bad, numbers-bad, bodies-bad, open-refusal};
 ghost use Rattle.refusal.specs.Answers.{told, answer};
 use crate::fields::cards_of;
@@ -13,11 +11,14 @@ use crate::fields::tune_count;
 use refusal::Answer;
 use refusal::Refusal;
 
+// A book has at most this many bytes.
+pub const LONGEST: usize = 65536;
+
 // Refusal 5: the file is too long, or too short for its contents.
 fn size_bad(book: &[u8]) -> bool
     ensures { λ r. ⌜ r ≡ size-bad (now (book .entry)) ⌝ }
 {
-    if 65536 < book.len() {
+    if LONGEST < book.len() {
         return true;
     }
     if book.len() < 2 {
@@ -28,11 +29,12 @@ fn size_bad(book: &[u8]) -> bool
 }
 
 // Refusal 6: some tune number is not 1 to 9,999, or not above the one before it.
-fn numbers_bad(book: &[u8]) -> bool
-    requires { ⌜ contents-end (tunes (now book)) ≤ length (now book) ⌝ }
+fn numbers_bad(book: &[u8], entries: u16) -> bool
+    requires { ⌜ entries ≡ tunes (now book) ⌝ }
+    requires { ⌜ Entries-within (now book) ⌝ }
     ensures { λ r. ⌜ r ≡ numbers-bad (now (book .entry)) ⌝ }
 {
-    let count = tune_count(book) as usize;
+    let count = entries as usize;
     let mut least = 1;
     let mut e = 0;
     while e < count {
@@ -50,11 +52,12 @@ fn numbers_bad(book: &[u8]) -> bool
 }
 
 // Refusal 7: some tune has no cards, some body does not begin where those before it end, or the last does not end with the file.
-fn bodies_bad(book: &[u8]) -> bool
-    requires { ⌜ contents-end (tunes (now book)) ≤ length (now book) ⌝ }
+fn bodies_bad(book: &[u8], entries: u16) -> bool
+    requires { ⌜ entries ≡ tunes (now book) ⌝ }
+    requires { ⌜ Entries-within (now book) ⌝ }
     ensures { λ r. ⌜ r ≡ bodies-bad (now (book .entry)) ⌝ }
 {
-    let count = tune_count(book) as usize;
+    let count = entries as usize;
     let mut end = 2 + 8 * count;
     let mut e = 0;
     while e < count {
@@ -78,11 +81,12 @@ pub fn open(book: &[u8]) -> Answer
     if size_bad(book) {
         return Answer::Refused(Refusal::BookSize);
     }
-    if numbers_bad(book) {
+    let count = tune_count(book);
+    if numbers_bad(book, count) {
         return Answer::Refused(Refusal::TuneNumber);
     }
-    if bodies_bad(book) {
+    if bodies_bad(book, count) {
         return Answer::Refused(Refusal::Layout);
     }
-    Answer::Value(tune_count(book) as u32)
+    Answer::Value(count as u32)
 }

@@ -1,14 +1,13 @@
-// The tunes of a book in contents order.
+// The tunes of a book by their places in the contents, counted from 0.
 // Assumes nothing: what is asked is asked in a `requires`.
 ghost use mathlib.Core.Path.{_≡_};
-ghost use Prim.Native.Nat.{_≤_};
-ghost use lib.ListN.{length};
-ghost use Rattle.book.specs.Layout.{tunes, contents-end};
-ghost use Rattle.book.specs.Entries.{listed, entry-listed, listed-at};
+ghost use Rattle.book.specs.Layout.{tune-number, offset, cards, part-of};
+ghost use Rattle.book.specs.Accepted.{Accepted-entry};
+ghost use Rattle.book.specs.Entries.{listed, listed-at};
 use crate::contents::open;
 use crate::fields::cards_of;
 use crate::fields::number_of;
-use crate::fields::tune_count;
+use crate::fields::offset_of;
 use refusal::Answer;
 use refusal::Refusal;
 
@@ -21,30 +20,49 @@ pub struct Tune {
 // What stands at a place of the contents.
 pub enum Entry {
     Tune(Tune),
-    Nothing,
     Refused(Refusal),
 }
 
-// Entry `e`, or that the contents has fewer.
-fn entry_of(book: &[u8], e: usize) -> Entry
-    requires { ⌜ contents-end (tunes (now book)) ≤ length (now book) ⌝ }
-    ensures { λ r. ⌜ listed r ≡ entry-listed (now (book .entry)) e ⌝ }
+// The tune of entry `e` of an accepted book.
+pub fn entry_at(book: &[u8], e: usize) -> Tune
+    requires { ⌜ Accepted-entry (now book) e ⌝ }
+    ensures { λ r. ⌜ (r .number ≡ tune-number (now (book .entry)) e) × (r .cards ≡ cards (now (book .entry)) e) ⌝ }
 {
-    if tune_count(book) as usize <= e {
-        return Entry::Nothing;
-    }
-    Entry::Tune(Tune {
+    Tune {
         number: number_of(book, e) as u32,
         cards: cards_of(book, e) as u32,
-    })
+    }
 }
 
-// The tune at a place of the contents, counted from 0. As Open; then whether there is such an entry.
+// Where the body of entry `e` of an accepted book begins, counted from the file's start.
+pub fn offset_at(book: &[u8], e: usize) -> u32
+    requires { ⌜ Accepted-entry (now book) e ⌝ }
+    ensures { λ r. ⌜ r ≡ offset (now (book .entry)) e ⌝ }
+{
+    offset_of(book, e)
+}
+
+// The body of entry `e` of an accepted book, as a part of the book.
+pub fn body_at(book: &[u8], e: usize) -> &[u8]
+    requires { ⌜ Accepted-entry (now book) e ⌝ }
+    ensures { λ r. ⌜ now r ≡ part-of (now (book .entry)) e ⌝ }
+{
+    let start = offset_of(book, e) as usize;
+    let end = start + 12 * (cards_of(book, e) as usize);
+    &book[start..end]
+}
+
+// The tune at a place of the contents. As Open; then 8 if the contents has no such place.
 pub fn tune_at(book: &[u8], place: u32) -> Entry
     ensures { λ r. ⌜ listed r ≡ listed-at (now (book .entry)) place ⌝ }
 {
     match open(book) {
         Answer::Refused(why) => Entry::Refused(why),
-        Answer::Value(_) => entry_of(book, place as usize),
+        Answer::Value(count) => {
+            if count <= place {
+                return Entry::Refused(Refusal::NoSuchTune);
+            }
+            Entry::Tune(entry_at(book, place as usize))
+        },
     }
 }

@@ -1,17 +1,14 @@
 // Pull: the part of a book that is a tune's body, found by the tune number.
 // Assumes nothing.
 ghost use mathlib.Core.Path.{_≡_};
-ghost use Prim.Native.Nat.{_+_, _*_, _≤_};
-ghost use lib.ListN.{length};
-ghost use Rattle.book.specs.Layout.{tunes, contents-end, offset, cards, part-of};
-ghost use Rattle.book.specs.Pull.{entry-of, pull-refusal, pulled, pulled-from};
+ghost use Rattle.refusal.specs.Answers.{outcome, told, answer};
+ghost use Rattle.book.specs.Layout.{tunes, Entries-within};
+ghost use Rattle.book.specs.Pull.{entry-of, place-at, pull-refusal, pulled, pulled-from};
 ghost use Rattle.book.specs.Loops.{found};
-ghost use Rattle.refusal.specs.Answers.{outcome};
 use crate::contents::open;
-use crate::fields::cards_of;
+use crate::entries::body_at;
+use crate::entries::offset_at;
 use crate::fields::number_of;
-use crate::fields::offset_of;
-use crate::fields::tune_count;
 use refusal::Answer;
 use refusal::Outcome;
 use refusal::Refusal;
@@ -23,11 +20,11 @@ enum Found {
 }
 
 // The entry that bears the tune number, or that there is none.
-fn find_entry(book: &[u8], number: u32) -> Found
-    requires { ⌜ contents-end (tunes (now book)) ≤ length (now book) ⌝ }
+fn find_entry(book: &[u8], count: usize, number: u32) -> Found
+    requires { ⌜ count ≡ tunes (now book) ⌝ }
+    requires { ⌜ Entries-within (now book) ⌝ }
     ensures { λ r. ⌜ found r ≡ entry-of (now (book .entry)) number ⌝ }
 {
-    let count = tune_count(book) as usize;
     let mut e = 0;
     loop {
         if count <= e {
@@ -40,27 +37,26 @@ fn find_entry(book: &[u8], number: u32) -> Found
     }
 }
 
-// The body of entry `e`, as a part of the book.
-fn part(book: &[u8], e: usize) -> &[u8]
-    requires { ⌜ contents-end (e + 1) ≤ length (now book) ⌝ }
-    requires { ⌜ offset (now book) e + 12 * cards (now book) e ≤ length (now book) ⌝ }
-    ensures { λ r. ⌜ now r ≡ part-of (now (book .entry)) e ⌝ }
+// The place in the contents of the entry that bears the tune number. As Open; then 8 if no entry has the number.
+pub fn tune_place(book: &[u8], number: u32) -> Answer
+    ensures { λ r. ⌜ told r ≡ answer (pull-refusal (now (book .entry)) number) (place-at (entry-of (now (book .entry)) number)) ⌝ }
 {
-    let start = offset_of(book, e) as usize;
-    let end = start + 12 * (cards_of(book, e) as usize);
-    &book[start..end]
+    match open(book) {
+        Answer::Refused(why) => Answer::Refused(why),
+        Answer::Value(count) => match find_entry(book, count as usize, number) {
+            Found::Nothing => Answer::Refused(Refusal::NoSuchTune),
+            Found::At(e) => Answer::Value(e as u32),
+        },
+    }
 }
 
 // Document 01: Pull, whether the tune is there. As Open; then 8 if no entry has the number.
 pub fn find_tune(book: &[u8], number: u32) -> Outcome
     ensures { λ r. ⌜ outcome r ≡ pull-refusal (now (book .entry)) number ⌝ }
 {
-    match open(book) {
+    match tune_place(book, number) {
         Answer::Refused(why) => Outcome::Refused(why),
-        Answer::Value(_) => match find_entry(book, number) {
-            Found::Nothing => Outcome::Refused(Refusal::NoSuchTune),
-            Found::At(_) => Outcome::Done,
-        },
+        Answer::Value(_) => Outcome::Done,
     }
 }
 
@@ -68,12 +64,9 @@ pub fn find_tune(book: &[u8], number: u32) -> Outcome
 pub fn tune_body(book: &[u8], number: u32) -> &[u8]
     ensures { λ r. ⌜ now r ≡ pulled (now (book .entry)) number ⌝ }
 {
-    match open(book) {
+    match tune_place(book, number) {
         Answer::Refused(_) => &book[0..0],
-        Answer::Value(_) => match find_entry(book, number) {
-            Found::Nothing => &book[0..0],
-            Found::At(e) => part(book, e),
-        },
+        Answer::Value(e) => body_at(book, e as usize),
     }
 }
 
@@ -82,11 +75,8 @@ pub fn tune_body(book: &[u8], number: u32) -> &[u8]
 pub fn tune_offset(book: &[u8], number: u32) -> u32
     ensures { λ r. ⌜ r ≡ pulled-from (now (book .entry)) number ⌝ }
 {
-    match open(book) {
+    match tune_place(book, number) {
         Answer::Refused(_) => 0,
-        Answer::Value(_) => match find_entry(book, number) {
-            Found::Nothing => 0,
-            Found::At(e) => offset_of(book, e),
-        },
+        Answer::Value(e) => offset_at(book, e as usize),
     }
 }

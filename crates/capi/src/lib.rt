@@ -8,7 +8,8 @@ ghost use Rattle.book.specs.Layout.{tunes};
 ghost use Rattle.book.specs.Open.{open-refusal};
 ghost use Rattle.book.specs.Reading.{spoken};
 ghost use Rattle.book.specs.Bodies.{body-refusal, total-delay};
-ghost use Rattle.capi.specs.Calls.{kept, Gives, Encodes, Tests, Decodes, Pulls, Struck, Reads, Names};
+ghost use Rattle.capi.specs.Calls.{kept, Gives, Encodes, Tests, Decodes, Pulls, Lists, Struck, Reads, Names, Writes};
+use book::Entry;
 use book::Reading;
 use book::Strike;
 use book::Worn;
@@ -19,11 +20,11 @@ fn give(a: Answer, value: &mut u32) -> u32
     ensures refusal { λ r. ⌜ r ≡ told a .refusal ⌝ }
     ensures given { λ r. ⌜ now (value .exit) ≡ kept (told a .refusal) (told a .value) (now (value .entry)) ⌝ }
 {
-    let n = refusal::answer_number(a);
-    if n == 0 {
+    let number = refusal::answer_number(a);
+    if number == 0 {
         *value = refusal::answer_value(a);
     }
-    n
+    number
 }
 
 // Document 01: Press.
@@ -82,12 +83,34 @@ pub extern "C" fn lucetcoral_tune_body(
 ) -> u32
     ensures { λ r. ⌜ Pulls (now (book .entry)) number (now (offset .entry)) (now (length .entry)) r (now (offset .exit)) (now (length .exit)) ⌝ }
 {
-    let n = refusal::outcome_number(book::find_tune(book, number));
-    if n == 0 {
-        *offset = book::tune_offset(book, number);
-        *length = book::tune_body(book, number).len() as u32;
+    match book::tune_place(book, number) {
+        Answer::Refused(why) => refusal::number(why),
+        Answer::Value(e) => {
+            *offset = book::offset_at(book, e as usize);
+            *length = book::body_at(book, e as usize).len() as u32;
+            0
+        },
     }
-    n
+}
+
+// The tune at a place of the contents.
+#[no_mangle]
+pub extern "C" fn lucetcoral_tune_at(
+    book: &[u8],
+    place: u32,
+    number: &mut u32,
+    cards: &mut u32,
+) -> u32
+    ensures { λ r. ⌜ Lists (now (book .entry)) place (now (number .entry)) (now (cards .entry)) r (now (number .exit)) (now (cards .exit)) ⌝ }
+{
+    match book::tune_at(book, place) {
+        Entry::Refused(why) => refusal::number(why),
+        Entry::Tune(tune) => {
+            *number = tune.number;
+            *cards = tune.cards;
+            0
+        },
+    }
 }
 
 // The number of a reading's refusal, 0 if there is none.
@@ -163,5 +186,19 @@ pub extern "C" fn lucetcoral_damaged_card(body: &[u8], card: &mut u32) -> u32
             0
         },
         Worn::Refused(why) => refusal::number(why),
+    }
+}
+
+// Document 01: the listing program's text.
+#[no_mangle]
+pub extern "C" fn lucetcoral_list(book: &[u8], text: &mut [u8], written: &mut usize) -> u32
+    ensures { λ r. ⌜ Writes (now (book .entry)) (now (text .entry)) (now (written .entry)) r (now (text .exit)) (now (written .exit)) ⌝ }
+{
+    match listing::write_listing(book, text) {
+        Answer::Refused(why) => refusal::number(why),
+        Answer::Value(size) => {
+            *written = size as usize;
+            0
+        },
     }
 }

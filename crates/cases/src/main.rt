@@ -1,5 +1,5 @@
-// Runs calls of the nine operations, one a line of standard input, and prints a line for what comes of each. A call is the number of the
-// operation, then k or the number of a tune or a card if it takes one, then its lists, each as its length and its values. What comes of it
+// Runs calls of the operations, one a line of standard input, and prints a line for what comes of each. A call is the number of the
+// operation, then k, the number of a tune or a card, or a place if it takes one, then its lists, each as its length and its values. What comes of it
 // is the status, 0 or the refusal, then the numbers given back, then the lists that were lent to be filled.
 // Assumes what `io` and `libc` assume of reading and writing; of the input, at most 65,536 bytes are read.
 mod code;
@@ -21,6 +21,7 @@ fn run(line: &[u8]) {
         7 => tunes::read_card(line, at),
         8 => tunes::total_delay(line, at),
         9 => tunes::damaged_card(line, at),
+        10 => tunes::tune_at(line, at),
         _ => {},
     }
     io::write_all(1, b"\n");

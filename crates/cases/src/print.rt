@@ -1,5 +1,6 @@
 // What comes of a call, printed: the status, then the numbers given back, then the lists filled, with a space before all but the first.
 // Assumes what `io` and `libc` assume of writing.
+use book::Entry;
 use book::Reading;
 use book::Worn;
 use refusal::Answer;
@@ -52,6 +53,18 @@ pub(crate) fn reading(of: Reading) {
             number(s.damage as u64);
         },
         Reading::Refused(why) => refused(why),
+    }
+}
+
+// A tune's number and its count of cards.
+pub(crate) fn entry(of: Entry) {
+    match of {
+        Entry::Tune(tune) => {
+            done();
+            number(tune.number as u64);
+            number(tune.cards as u64);
+        },
+        Entry::Refused(why) => refused(why),
     }
 }
 

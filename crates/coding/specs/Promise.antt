@@ -7,7 +7,8 @@ use lib.Dec.{eqb}
 use Rattle.rank.specs.Definitions.{is-card, apart}
 use Rattle.coding.specs.Code.{word, is-message, Near, is-mu, test-values}
 
--- THE THIRD DEMAND: whatever card, at most one word lies within the radius
+-- OF THE THIRD DEMAND, what the code must have: at most one word lies within the radius of a card. That decoding finds it, or refuses exactly
+-- if there is none, is said of the operation in crate demands
 unfoldable pub One-near : Type 0
 One-near =
     (k : ℕ) (c m n : List ℕ) → 1 ≤ k → k ≤ 5 → is-card c ≡ true → Near k c m → Near k c n → (m ≡ n) × (word k m ≡ word k n)
@@ -17,7 +18,7 @@ unfoldable pub Far-apart : Type 0
 Far-apart =
     (k : ℕ) (m n : List ℕ) → 1 ≤ k → k ≤ 5 → is-message k m ≡ true → is-message k n ≡ true → (m ≡ n → ⊥) → 7 ≤ apart (word k m) (word k n) + k
 
--- THE SECOND DEMAND: words are cards; each word has one message; the test values are all 0 exactly for words
+-- OF THE SECOND: words are cards; there is one list mu; the test values are all 0 exactly for words
 unfoldable pub Words-cards : Type 0
 Words-cards = (k : ℕ) (m : List ℕ) → 1 ≤ k → k ≤ 5 → is-message k m ≡ true → is-card (word k m) ≡ true
 

@@ -61,7 +61,9 @@ told-refused r why n v p e =
     let q : number why ≡ n = ap (λ (t : Told). t .refusal) (rw p at e) in
     (q, λ z. true≢false (sym (eq-eqb (number why) 0 (q ∙ z)) ∙ number-not-zero why))
 
--- a value tells that there is no refusal
-pub told-value : (r : Answer) (x n v : ℕ) → r ≡ answers.Value x → told r ≡ answer n v → n ≡ 0
+-- a value tells that there is no refusal, and is the value to be told
+pub told-value : (r : Answer) (x n v : ℕ) → r ≡ answers.Value x → told r ≡ answer n v → (n ≡ 0) × (x ≡ v)
 unfolding answer
-told-value r x n v p e = sym (ap (λ (t : Told). t .refusal) (rw p at e))
+told-value r x n v p e =
+    let z : n ≡ 0 = sym (ap (λ (t : Told). t .refusal) (rw p at e)) in
+    (z, ap (λ (t : Told). t .value) (rw p at e) ∙ rw (eq-eqb n 0 z))

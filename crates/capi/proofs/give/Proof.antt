@@ -1,7 +1,7 @@
 -- `capi::give` meets its contract: the value is given exactly where there is no refusal. Assumes nothing.
 use mathlib.Core.Path.{sym, _∙_}
 use borrow.Author.Needs.{needs}
-use Rattle.capi.specs.Calls.{kept-none, kept-same}
+use Rattle.capi.specs.Given.{kept-none, kept-same}
 use Rattle.capi.proofs.give.Statement.{statement}
 use Rattle.capi.proofs.give.Tie as tie
 

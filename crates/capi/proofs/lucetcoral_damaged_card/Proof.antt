@@ -1,7 +1,7 @@
 -- `capi::lucetcoral_damaged_card` meets its contract: each case of the answer in numbers. Assumes nothing.
 use borrow.Author.Needs.{needs}
 use denote.Ref.{now}
-use Rattle.capi.specs.Calls.{names-card, names-none, names-refused}
+use Rattle.capi.specs.Given.{names-card, names-none, names-refused}
 use Rattle.capi.proofs.lucetcoral_damaged_card.Statement.{statement}
 use Rattle.capi.proofs.lucetcoral_damaged_card.Tie as tie
 

@@ -1,6 +1,6 @@
 -- `capi::lucetcoral_decode` meets its contract: the lists are decode's, and what the answer tells is given. Assumes nothing.
 use borrow.Author.Needs.{needs}
-use Rattle.capi.specs.Calls.{given-told}
+use Rattle.capi.specs.Given.{given-told}
 use Rattle.capi.proofs.lucetcoral_decode.Statement.{statement}
 use Rattle.capi.proofs.lucetcoral_decode.Tie as tie
 

@@ -2,7 +2,7 @@
 use borrow.Author.Needs.{needs}
 use mathlib.Core.Path.{_≡_, sym, ap, _∙_}
 use Rattle.book.specs.Reading.{Spoken, reading}
-use Rattle.capi.specs.Calls.{kept-none, kept-same}
+use Rattle.capi.specs.Given.{kept-none, kept-same}
 use Rattle.capi.proofs.lucetcoral_read_card.Statement.{statement}
 use Rattle.capi.proofs.lucetcoral_read_card.Tie as tie
 

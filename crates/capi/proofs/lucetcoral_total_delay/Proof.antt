@@ -1,6 +1,6 @@
 -- `capi::lucetcoral_total_delay` meets its contract: what the answer tells is given. Assumes nothing.
 use borrow.Author.Needs.{needs}
-use Rattle.capi.specs.Calls.{given-told}
+use Rattle.capi.specs.Given.{given-told}
 use Rattle.capi.proofs.lucetcoral_total_delay.Statement.{statement}
 use Rattle.capi.proofs.lucetcoral_total_delay.Tie as tie
 

@@ -1,6 +1,6 @@
 -- `capi::lucetcoral_weight` meets its contract: what the answer tells is given. Assumes nothing.
 use borrow.Author.Needs.{needs}
-use Rattle.capi.specs.Calls.{given-told}
+use Rattle.capi.specs.Given.{given-told}
 use Rattle.capi.proofs.lucetcoral_weight.Statement.{statement}
 use Rattle.capi.proofs.lucetcoral_weight.Tie as tie
 

@@ -1,7 +1,7 @@
 -- `capi::reading_number` meets its contract: a refusal says its number. Assumes nothing.
 use borrow.Author.Needs.{needs}
 use mathlib.Core.Path.{_∙_}
-use Rattle.capi.specs.Calls.{spoken-refused}
+use Rattle.capi.specs.Given.{spoken-refused}
 use Rattle.capi.proofs.reading_number.Statement.{statement}
 use Rattle.capi.proofs.reading_number.Tie as tie
 

@@ -1,6 +1,6 @@
 -- `capi::reading_strike` meets its contract: a strike is handed on, a refusal says zeros. Assumes nothing.
 use borrow.Author.Needs.{needs}
-use Rattle.capi.specs.Calls.{struck-refused}
+use Rattle.capi.specs.Given.{struck-refused}
 use Rattle.capi.proofs.reading_strike.Statement.{statement}
 use Rattle.capi.proofs.reading_strike.Tie as tie
 

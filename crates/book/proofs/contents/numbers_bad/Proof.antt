@@ -13,10 +13,10 @@ use Rattle.book.proofs.contents.numbers_bad.Statement.{statement}
 use Rattle.book.proofs.contents.numbers_bad.Tie as tie
 
 abbrev Inv-loop : tie.InvT-loop
-Inv-loop book count least₀ e₀ least e = (e ≤ count) × (numbers-bad book ≡ not (numbers-on book e least))
+Inv-loop book entries count least₀ e₀ least e = (e ≤ count) × (numbers-bad book ≡ not (numbers-on book e least))
 
 abbrev μ-loop : tie.MeasureT-loop
-μ-loop book count least₀ e₀ least e = count - e
+μ-loop book entries count least₀ e₀ least e = count - e
 
 loop-holds : tie.Need-loop-holds Inv-loop μ-loop
 loop-holds c = (search needs, numbers-start _)
@@ -24,7 +24,7 @@ loop-holds c = (search needs, numbers-start _)
 returns : tie.Need-returns Inv-loop μ-loop
 returns c =
     let l = c .before .before .before in
-    let bs = now (l .before .before .before .args .book) in
+    let bs = now (l .before .before .args .book) in
     let e = l .loop .e in
     let m = l .loop .least in
     rw (l .loop .inv .1, numbers-next bs e m (omega arith), lt-leb m (tune-number bs e) (omega arith))
@@ -32,7 +32,7 @@ returns c =
 returns-2 : tie.Need-returns-2 Inv-loop μ-loop
 returns-2 c =
     let l = c .before .before .before .before in
-    let bs = now (l .before .before .before .args .book) in
+    let bs = now (l .before .before .args .book) in
     let e = l .loop .e in
     let m = l .loop .least in
     let n = tune-number bs e in
@@ -41,7 +41,7 @@ returns-2 c =
 loop-again : tie.Need-loop-again Inv-loop μ-loop
 loop-again c =
     let l = c .before .before .before .before in
-    let bs = now (l .before .before .before .args .book) in
+    let bs = now (l .before .before .args .book) in
     let e = l .loop .e in
     let m = l .loop .least in
     let n = tune-number bs e in
@@ -52,7 +52,10 @@ loop-again c =
 returns-3 : tie.Need-returns-3 Inv-loop μ-loop
 returns-3 c =
     let l = c .before in
-    rw (l .loop .inv .1, numbers-end (now (l .before .before .before .args .book)) (l .loop .e) (l .loop .least) (omega arith))
+    rw (l .loop .inv .1, numbers-end (now (l .before .before .args .book)) (l .loop .e) (l .loop .least) (omega arith))
+
+number-of-requires : tie.Need-number-of-requires Inv-loop μ-loop
+number-of-requires c κs = let l = c .before in l .before .before .pre .1 (l .loop .e) (omega arith)
 
 pub numbers-bad-spec : {M : Type 1} → statement M
 numbers-bad-spec =
@@ -60,10 +63,8 @@ numbers-bad-spec =
     (tie.spec
     Inv-loop
     μ-loop
-    (λ c κs. search needs)
-    (λ c. search needs)
     loop-holds
-    (λ c κs. search needs)
+    number-of-requires
     returns
     returns-2
     (λ c. search needs)

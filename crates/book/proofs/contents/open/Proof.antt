@@ -1,7 +1,6 @@
 -- `book::contents::open` meets its contract: each answer is that of the tests on its way. Assumes nothing.
 use mathlib.Core.Path.{_≡_}
 use mathlib.Core.Bool.{true, false}
-use native.Mathlib.Omega.{arith}
 use denote.Ref.{now}
 use borrow.Author.Needs.{needs}
 use Rattle.refusal.specs.Answers.{answer}
@@ -16,10 +15,28 @@ returns c =
     let p : size-bad (now (c .before .before .before .args .book)) ≡ true = cc in
     rw p
 
+tune-count-requires : tie.Need-tune-count-requires
+tune-count-requires c κs =
+    let bs = now (c .before .before .before .args .book) in
+    let p : size-bad bs ≡ false = cc in
+    size-within bs p .1
+
+numbers-bad-requires : tie.Need-numbers-bad-requires
+numbers-bad-requires c κs =
+    let bs = now (c .before .before .before .before .args .book) in
+    let p : size-bad bs ≡ false = cc in
+    (c .tune-count .ensures, size-within bs p .2)
+
+bodies-bad-requires : tie.Need-bodies-bad-requires
+bodies-bad-requires c κs =
+    let bs = now (c .before .before .before .before .before .before .args .book) in
+    let p : size-bad bs ≡ false = cc in
+    (c .before .before .tune-count .ensures, size-within bs p .2)
+
 returns-2 : tie.Need-returns-2
 unfolding answer open-refusal
 returns-2 c =
-    let bs = now (c .before .before .before .before .before .args .book) in
+    let bs = now (c .before .before .before .before .before .before .args .book) in
     let p : size-bad bs ≡ false = cc in
     let q : numbers-bad bs ≡ true = cc in
     rw (p, q)
@@ -27,26 +44,21 @@ returns-2 c =
 returns-3 : tie.Need-returns-3
 unfolding answer open-refusal
 returns-3 c =
-    let bs = now (c .before .before .before .before .before .before .before .args .book) in
+    let bs = now (c .before .before .before .before .before .before .before .before .args .book) in
     let p : size-bad bs ≡ false = cc in
     let q : numbers-bad bs ≡ false = cc in
     let r : bodies-bad bs ≡ true = cc in
     rw (p, q, r)
 
-tune-count-requires : tie.Need-tune-count-requires
-tune-count-requires c κs =
-    let bs = now (c .before .before .before .before .before .before .before .args .book) in
-    let p : size-bad bs ≡ false = cc in
-    omega (arith, size-within bs p .1)
-
 returns-4 : tie.Need-returns-4
 unfolding answer open-refusal
 returns-4 c =
-    let bs = now (c .before .before .before .before .before .before .before .before .args .book) in
+    let t = c .before .before .before .before in
+    let bs = now (t .before .before .before .before .args .book) in
     let p : size-bad bs ≡ false = cc in
     let q : numbers-bad bs ≡ false = cc in
     let r : bodies-bad bs ≡ false = cc in
-    rw (p, q, r, c .tune-count .ensures)
+    rw (p, q, r, t .tune-count .ensures)
 
 pub open-spec : {M : Type 1} → statement M
 open-spec =
@@ -54,10 +66,10 @@ open-spec =
     (tie.spec
     (λ c κs. search needs)
     returns
-    (λ c κs. size-within _ (cc) .1)
-    returns-2
-    (λ c κs. size-within _ (cc) .1)
-    returns-3
     tune-count-requires
+    numbers-bad-requires
+    returns-2
+    bodies-bad-requires
+    returns-3
     (λ c. search needs)
     returns-4)

@@ -12,15 +12,15 @@ use Rattle.book.proofs.pull.find_entry.Statement.{statement}
 use Rattle.book.proofs.pull.find_entry.Tie as tie
 
 abbrev Inv-loop : tie.InvT-loop
-Inv-loop book number count e₀ e = (e ≤ count) × (entry-of book number ≡ entry-on book e number)
+Inv-loop book count number e₀ e = (e ≤ count) × (entry-of book number ≡ entry-on book e number)
 
 abbrev μ-loop : tie.MeasureT-loop
-μ-loop book number count e₀ e = count - e
+μ-loop book count number e₀ e = count - e
 
 loop-again : tie.Need-loop-again Inv-loop μ-loop
 loop-again c =
     let l = c .before .before .before in
-    let a = l .before .before .before .args in
+    let a = l .before .before .args in
     let bs = now (a .book) in
     let e = l .loop .e in
     let n = ne-eqb (tune-number bs e) (a .number) (λ h. c .if2 .left (c .before .number-of .ensures ∙ h)) in
@@ -29,16 +29,19 @@ loop-again c =
 returns : tie.Need-returns Inv-loop μ-loop
 returns c =
     let l = c .before in
-    let a = l .before .before .before .args in
+    let a = l .before .before .args in
     rw (l .loop .inv .1, entry-end (now (a .book)) (l .loop .e) (a .number) (omega arith))
 
 returns-2 : tie.Need-returns-2 Inv-loop μ-loop
 returns-2 c =
     let l = c .before .before .before in
-    let a = l .before .before .before .args in
+    let a = l .before .before .args in
     let bs = now (a .book) in
     let e = l .loop .e in
     rw (l .loop .inv .1, entry-next bs e (a .number) (omega arith), eq-eqb (tune-number bs e) (a .number) (omega arith))
+
+number-of-requires : tie.Need-number-of-requires Inv-loop μ-loop
+number-of-requires c κs = let l = c .before in l .before .before .pre .1 (l .loop .e) (omega arith)
 
 pub find-entry-spec : {M : Type 1} → statement M
 find-entry-spec =
@@ -46,10 +49,8 @@ find-entry-spec =
     (tie.spec
     Inv-loop
     μ-loop
-    (λ c κs. search needs)
-    (λ c. search needs)
     (λ c. (search needs, entry-start _ _))
-    (λ c κs. search needs)
+    number-of-requires
     (λ c. search needs)
     (λ c. search needs)
     (λ c. search needs)

@@ -1,48 +1,23 @@
--- `book::pull::tune_offset` meets its contract: it goes by what `open` and `find_entry` answer, as `pulled-from` does. Assumes nothing.
-use mathlib.Core.Path.{_≡_, sym, _∙_, ap}
-use native.Mathlib.Omega.{arith}
+-- `book::pull::tune_offset` meets its contract: the entry that `tune_place` gives is in an accepted book and bears the number. Assumes nothing.
+use mathlib.Core.Path.{sym, _∙_}
 use denote.Ref.{now}
 use borrow.Author.Needs.{needs}
 use Rattle.refusal.specs.Answers.{told-refused, told-value}
-use Rattle.book.specs.declared.pull.Found.{Found}
-use Rattle.book.specs.Layout.{tunes}
-use Rattle.book.specs.Open.{open-refusal}
-use Rattle.book.specs.Pull.{offset-at, pulled-from}
-use Rattle.book.specs.Loops.{found}
-use Rattle.book.specs.Accepted.{Accepted, contents-within}
-use Rattle.book.specs.Pulled.{pulled-from-accepted, pulled-from-refused, entry-found}
+use Rattle.book.specs.Pulled.{There, pulls-only, refused-from}
 use Rattle.book.proofs.pull.tune_offset.Statement.{statement}
 use Rattle.book.proofs.pull.tune_offset.Tie as tie
 
-accepted : (c : tie.After-enum-told2) → Accepted (now (c .before .before .before .before .args .book))
-accepted c =
-    let o = c .before .before in
-    let bs = now (o .before .before .args .book) in
-    told-value _ _ (open-refusal bs) (tunes bs) (c .enum-told2 .given .1) (o .«open» .ensures)
-
-searched : (c : tie.After-find-entry) (f : Found) → c .find-entry .result ≡ f
-    → pulled-from (now (c .before .before .before .before .before .args .book)) (c .before .before .before .before .before .args .number)
-    ≡ offset-at (now (c .before .before .before .before .before .args .book)) (found f)
-searched c f e = pulled-from-accepted _ _ (accepted (c .before)) ∙ ap (offset-at _) (sym (c .find-entry .ensures) ∙ ap found e)
+-- the entry at the place
+there : (c : tie.After-e) → let a = c .before .before .before .before .args in There (now (a .book)) (a .number) (c .e .given .0 .0)
+there c =
+    let t = told-value _ _ _ _ (c .e .given .1) (c .before .before .tune-place .ensures) in
+    rw (t .1) (pulls-only _ _ (t .0))
 
 returns : tie.Need-returns
-returns c =
-    let o = c .before .before in
-    let bs = now (o .before .before .args .book) in
-    sym (pulled-from-refused bs _ (told-refused _ _ (open-refusal bs) (tunes bs) (c .enum-told .given .1) (o .«open» .ensures) .1))
+returns c = sym (refused-from _ _ (told-refused _ _ _ _ (c .enum-told .given .1) (c .before .before .tune-place .ensures) .1))
 
 returns-2 : tie.Need-returns-2
-returns-2 c = sym (searched (c .before .before) _ (c .enum-told3 .given .1))
-
-returns-3 : tie.Need-returns-3
-returns-3 c = c .offset-of .ensures ∙ sym (searched (c .before .before .before .before) _ (c .before .before .e .given .1))
-
-offset-of-requires : tie.Need-offset-of-requires
-offset-of-requires c κs =
-    let f = c .before .before .before in
-    let a = accepted (f .before) in
-    let w = entry-found _ _ _ (sym (f .find-entry .ensures) ∙ ap found (c .before .e .given .1)) .0 in
-    omega (arith, contents-within _ a)
+returns-2 c = c .offset-at .ensures ∙ sym (there (c .before .before) .begins)
 
 pub tune-offset-spec : {M : Type 1} → statement M
 tune-offset-spec =
@@ -51,10 +26,7 @@ tune-offset-spec =
     (λ c κs. search needs)
     (λ c. search needs)
     (λ c. search needs)
-    (λ c κs. contents-within _ (accepted c))
     (λ c. search needs)
-    (λ c. search needs)
-    offset-of-requires
+    (λ c κs. there (c .before) .held)
     returns
-    returns-2
-    returns-3)
+    returns-2)

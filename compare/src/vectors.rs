@@ -1,0 +1,296 @@
+//! Some hundreds of calls, for a program that reads them as lines (see
+//! `call`): the paper's cases, edges, and random inputs. The lists are short,
+//! and each call has one accepted outcome.
+
+use crate::call::Call;
+use crate::code::Card;
+use crate::random::Random;
+use crate::samples::{self, junk};
+
+/// The seed of the calls that are stored with the program.
+pub const STORED: u64 = 1;
+
+/// What lists to be filled hold before.
+const FILL: u16 = 99;
+
+pub fn calls(seed: u64) -> Vec<Call> {
+    let mut calls = paper_cases();
+    let random = &mut Random::new(seed);
+    for k in 1..=5 {
+        calls.extend(message_calls(random, k));
+        calls.extend(card_calls(random, k));
+    }
+    calls.extend(book_calls(random));
+    calls.extend(body_calls(random));
+    calls.extend(place_calls(random));
+    calls
+}
+
+fn encode(k: u32, message: &[u16]) -> Call {
+    Call::Encode {
+        k,
+        message: message.to_vec(),
+        word: vec![FILL; 6],
+    }
+}
+
+fn weight(symbols: &[u16]) -> Call {
+    Call::Weight {
+        symbols: symbols.to_vec(),
+    }
+}
+
+/// With a list to fill that is as long as it should be, if k is 1 to 5.
+fn syndrome(k: u32, received: &[u16]) -> Call {
+    Call::Syndrome {
+        k,
+        received: received.to_vec(),
+        values: vec![FILL; 12u32.saturating_sub(2 * k.min(6)) as usize],
+    }
+}
+
+/// With lists to fill that are as long as they should be, if k is 1 to 5.
+fn decode(k: u32, received: &[u16]) -> Call {
+    Call::Decode {
+        k,
+        received: received.to_vec(),
+        word: vec![FILL; 6],
+        message: vec![FILL; 2 * k.min(6) as usize],
+    }
+}
+
+fn open(book: &[u8]) -> Call {
+    Call::Open {
+        book: book.to_vec(),
+    }
+}
+
+fn tune_body(book: &[u8], number: u32) -> Call {
+    Call::TuneBody {
+        number,
+        book: book.to_vec(),
+    }
+}
+
+fn read_card(body: &[u8], number: u32) -> Call {
+    Call::ReadCard {
+        number,
+        body: body.to_vec(),
+    }
+}
+
+fn total_delay(body: &[u8]) -> Call {
+    Call::TotalDelay {
+        body: body.to_vec(),
+    }
+}
+
+fn damaged_card(body: &[u8]) -> Call {
+    Call::DamagedCard {
+        body: body.to_vec(),
+    }
+}
+
+fn tune_at(book: &[u8], place: u32) -> Call {
+    Call::TuneAt {
+        place,
+        book: book.to_vec(),
+    }
+}
+
+/// The paper's cases, with and without a star, and its book.
+fn paper_cases() -> Vec<Call> {
+    let cards = [
+        [1, 3, 9, 27, 81, 243],
+        [3, 279, 233, 650, 423, 163],
+        [2, 3, 9, 27, 81, 243],
+        [729, 3, 9, 27, 81, 243],
+    ];
+    let body = samples::body(&cards);
+    let book = samples::book(&[(7, body.clone())]);
+    let mut calls = vec![
+        encode(1, &[1, 0]),
+        encode(1, &[0, 1]),
+        encode(2, &[0, 1, 0, 0]),
+        encode(2, &[0, 0, 0, 1]),
+        decode(1, &[1, 3, 9, 0, 0, 0]),
+        decode(2, &[1, 3, 0, 0, 0, 0]),
+        decode(3, &[1, 3, 0, 0, 0, 0]),
+        decode(3, &[1, 0, 0, 0, 0, 0]),
+        decode(4, &[1; 6]),
+        decode(5, &[1, 0, 0, 0, 0, 0]),
+        weight(&[728; 6]),
+        weight(&[729, 0, 0, 0, 0, 0]),
+        encode(1, &[26, 26]),
+        encode(1, &[26, 27]),
+        open(&[0]),
+        open(&[0, 0]),
+        open(&[0, 0, 0]),
+        open(&book),
+        tune_body(&book, 7),
+        total_delay(&body),
+    ];
+    for k in [0, 6, u32::MAX] {
+        calls.extend([
+            encode(k, &vec![0; 2 * k.min(6) as usize]),
+            syndrome(k, &[0; 6]),
+            decode(k, &[0; 6]),
+        ]);
+    }
+    calls.extend((0..=5).map(|number| read_card(&body, number)));
+    calls
+}
+
+fn message_calls(random: &mut Random, k: u32) -> Vec<Call> {
+    let message = || samples::message(&mut Random::new(u64::from(k)), k);
+    let mut calls = vec![];
+    for _ in 0..10 {
+        calls.push(encode(k, &samples::message(random, k)));
+    }
+    for value in [26, 27, 65_535] {
+        let mut message = message();
+        *message.last_mut().expect("a message") = value;
+        calls.push(encode(k, &message));
+    }
+    calls.push(encode(k, &message()[1..]));
+    calls.push(encode(k, &[message(), vec![27]].concat()));
+    for word_len in [5, 7] {
+        calls.push(Call::Encode {
+            k,
+            message: message(),
+            word: junk(random, word_len),
+        });
+    }
+    calls
+}
+
+fn card_calls(random: &mut Random, k: u32) -> Vec<Call> {
+    let mut cards: Vec<Card> = vec![];
+    for damage in [0, 0, 0, 0, 1, 1, 1, 1, 2, 2, 2, 2, 3, 3, 4, 5, 6] {
+        cards.push(samples::sent(random, k, damage).received);
+    }
+    cards.extend((0..4).map(|_| samples::card(random)));
+    cards.extend((0..2).map(|_| samples::sparse_card(random)));
+    cards.extend((0..2).map(|_| samples::small_field_damage(random, k)));
+    for symbol in [728, 729, 65_535] {
+        let mut card = samples::sent(random, k, 0).word;
+        card[random.below(6) as usize] = symbol;
+        cards.push(card);
+    }
+    let mut calls = vec![];
+    for card in &cards {
+        calls.push(decode(k, card));
+    }
+    for card in cards.iter().step_by(2) {
+        calls.extend([weight(card), syndrome(k, card)]);
+    }
+    calls.extend(wrong_lengths(random, k));
+    calls
+}
+
+fn wrong_lengths(random: &mut Random, k: u32) -> Vec<Call> {
+    let (message_len, values_len) = (2 * k as usize, 12 - 2 * k as usize);
+    let mut calls = vec![weight(&[0; 5]), weight(&[729; 7])];
+    for [card, other] in [[5, 0], [7, 0], [6, 1]] {
+        calls.push(Call::Syndrome {
+            k,
+            received: random.numbers(card, 1_000),
+            values: junk(random, values_len + other),
+        });
+    }
+    for [card, word, other] in [[5, 6, 0], [6, 7, 0], [6, 6, 1]] {
+        calls.push(Call::Decode {
+            k,
+            received: random.numbers(card, 1_000),
+            word: junk(random, word),
+            message: junk(random, message_len + other),
+        });
+    }
+    calls
+}
+
+fn words(random: &mut Random, count: usize) -> Vec<Card> {
+    (0..count)
+        .map(|_| samples::sent(random, 2, 0).word)
+        .collect()
+}
+
+fn book_calls(random: &mut Random) -> Vec<Call> {
+    let tunes: Vec<(u16, Vec<u8>)> = [(3, 1), (700, 3), (9_999, 2)]
+        .map(|(number, cards)| (number, samples::body(&words(random, cards))))
+        .to_vec();
+    let book = samples::book(&tunes);
+    let mut calls = vec![open(&book)];
+    for number in [0, 2, 3, 4, 700, 9_999, 10_000, 65_539] {
+        calls.push(tune_body(&book, number));
+    }
+    for len in [2, 3, 9, 10, 25, 26, 27, book.len() - 12, book.len() - 1] {
+        calls.push(open(&book[..len]));
+    }
+    calls.push(open(&[book.clone(), vec![0]].concat()));
+    for numbers in [[0, 1], [3, 3], [4, 3], [256, 255], [9_999, 10_000]] {
+        let tunes = numbers.map(|number| (number, vec![0; 12]));
+        calls.push(open(&samples::book(&tunes)));
+    }
+    // Faults in each byte of the contents.
+    for place in 0..26 {
+        let mut faulty = book.clone();
+        faulty[place] ^= *random.pick(&[1, 2, 16, 128, 255]);
+        calls.push(open(&faulty));
+        calls.push(tune_body(&faulty, 700));
+    }
+    calls
+}
+
+fn body_calls(random: &mut Random) -> Vec<Call> {
+    let mut calls = vec![];
+    for damage in 0..24 {
+        let mut cards = words(random, 4);
+        let place = random.below(4) as usize;
+        cards[place] = samples::damaged(random, &cards[place], damage % 4);
+        if damage > 20 {
+            cards[place][damage as usize % 6] = 729;
+        }
+        let body = samples::body(&cards);
+        calls.extend([1 + place as u32, 1, 4].map(|number| read_card(&body, number)));
+        calls.extend([total_delay(&body), damaged_card(&body)]);
+    }
+    let body = samples::body(&words(random, 3));
+    for len in [0, 1, 11, 12, 13, 24, 35] {
+        let body = &body[..len];
+        calls.extend([read_card(body, 1), total_delay(body), damaged_card(body)]);
+    }
+    for number in [0, 3, 4, 65_537, u32::MAX] {
+        calls.push(read_card(&body, number));
+    }
+    calls
+}
+
+/// Places of the contents: all of them, those past the last, some that are a
+/// place in their low bits or after a product by the 8 bytes of an entry, and
+/// books that are refused.
+fn place_calls(random: &mut Random) -> Vec<Call> {
+    let one = || vec![0; 12];
+    let book = samples::book(&[(1, one()), (256, [one(), one()].concat()), (9_999, one())]);
+    let places = [0, 1, 2, 3, 4, 255, 256, 65_536, 65_538, 1 << 29, 1 << 31];
+    let mut calls: Vec<Call> = places.map(|place| tune_at(&book, place)).to_vec();
+    calls.push(tune_at(&book, u32::MAX));
+    for book in [&[][..], &[0], &[0, 0], &[0, 0, 0], &[0, 1], &[255; 10]] {
+        calls.extend([0, 1].map(|place| tune_at(book, place)));
+    }
+    for len in [9, 25, 26, book.len() - 1] {
+        calls.push(tune_at(&book[..len], 0));
+    }
+    for numbers in [[0, 1], [3, 3], [9_999, 10_000]] {
+        let tunes = numbers.map(|number| (number, one()));
+        calls.push(tune_at(&samples::book(&tunes), 0));
+    }
+    // A fault in each byte of the contents.
+    let small = samples::book(&[(3, one()), (700, one())]);
+    for place in 0..18 {
+        let mut faulty = small.clone();
+        faulty[place] ^= *random.pick(&[1, 2, 16, 128, 255]);
+        calls.push(tune_at(&faulty, 1 + place as u32 % 2));
+    }
+    calls
+}

@@ -1,0 +1,459 @@
+//! The programs `list_book` and `cases` as they were built: what they print,
+//! against the reference, and what comes of inputs and outputs that fail. All
+//! programs end with the status 0.
+
+use compare::book::{listing, LONGEST_BOOK};
+use compare::call::Call;
+use compare::code::{self, Card};
+use compare::random::Random;
+use compare::samples;
+use compare::vectors::{self, STORED};
+use std::ffi::c_int;
+use std::fs::{self, File};
+use std::io::{self, PipeReader, Read, Write};
+use std::os::fd::{AsRawFd, OwnedFd};
+use std::os::unix::net::UnixDatagram;
+use std::path::{Path, PathBuf};
+use std::process::{Command, Output, Stdio};
+use std::thread::{self, sleep};
+use std::time::Duration;
+
+extern "C" {
+    fn fcntl(file: c_int, command: c_int, ...) -> c_int;
+    fn kill(process: c_int, signal: c_int) -> c_int;
+}
+
+// Linux's numbers.
+const F_SETFL: c_int = 4;
+const O_NONBLOCK: c_int = 0o4000;
+const SIGCONT: c_int = 18;
+const SIGSTOP: c_int = 19;
+
+const CANNOT_OPEN: &str = "cannot open the input: ";
+const CANNOT_READ: &str = "cannot read the input: ";
+const CANNOT_WRITE: &str = "cannot write the output: ";
+
+fn repository(path: &str) -> PathBuf {
+    Path::new(env!("CARGO_MANIFEST_DIR")).join("..").join(path)
+}
+
+fn program(name: &str) -> PathBuf {
+    let path = repository("target/bin").join(name);
+    assert!(
+        path.is_file(),
+        "no target/bin/{name}: run `rt check list_book cases` in the repository first"
+    );
+    path
+}
+
+fn list_book() -> Command {
+    Command::new(program("list_book"))
+}
+
+fn milliseconds(count: u64) -> Duration {
+    Duration::from_millis(count)
+}
+
+/// A file with these bytes. Tests that run at the same time give other names.
+fn file(name: &str, bytes: &[u8]) -> PathBuf {
+    let path = Path::new(env!("CARGO_TARGET_TMPDIR")).join(name);
+    fs::write(&path, bytes).expect("a file in the temporary folder");
+    path
+}
+
+fn open(path: &Path) -> File {
+    File::open(path).expect("a file that can be opened")
+}
+
+/// A pipe out of which these pieces come, with a pause after each. A program
+/// need not read them all.
+fn pipe(pieces: Vec<Vec<u8>>, pause: Duration) -> PipeReader {
+    let (reader, mut writer) = io::pipe().expect("a pipe");
+    thread::spawn(move || {
+        for piece in pieces {
+            if writer.write_all(&piece).is_err() {
+                return;
+            }
+            sleep(pause);
+        }
+    });
+    reader
+}
+
+fn piped(bytes: &[u8]) -> PipeReader {
+    pipe(vec![bytes.to_vec()], Duration::ZERO)
+}
+
+fn set_nonblocking(file: &impl AsRawFd) {
+    // Sound: it only sets a flag of an open file.
+    let answer = unsafe { fcntl(file.as_raw_fd(), F_SETFL, O_NONBLOCK) };
+    assert_eq!(answer, 0, "{}", io::Error::last_os_error());
+}
+
+fn run(command: &mut Command) -> Output {
+    let output = command.output().expect("a program that runs");
+    assert_eq!(output.status.code(), Some(0), "{command:?}");
+    output
+}
+
+/// Panics unless the program printed this and said nothing else.
+fn expect_printed(command: &mut Command, text: &str) {
+    let output = run(command);
+    assert_eq!(String::from_utf8_lossy(&output.stderr), "", "{command:?}");
+    if output.stdout != text.as_bytes() {
+        let printed = String::from_utf8_lossy(&output.stdout);
+        assert_eq!(printed, text, "{command:?}");
+    }
+}
+
+/// Panics unless the program printed nothing and said one line that begins so.
+fn expect_said(command: &mut Command, beginning: &str) {
+    let output = run(command);
+    assert_eq!(String::from_utf8_lossy(&output.stdout), "", "{command:?}");
+    assert_one_line(&output.stderr, beginning);
+}
+
+fn assert_one_line(said: &[u8], beginning: &str) {
+    let said = String::from_utf8_lossy(said);
+    let one_line = said.ends_with('\n') && said.lines().count() == 1;
+    assert!(
+        one_line && said.starts_with(beginning),
+        "{said:?} is no line that begins with {beginning:?}"
+    );
+}
+
+/// Lists a book from a pipe, from a file, and from a file named as argument.
+fn check_listing(name: &str, book: &[u8]) {
+    let text = listing(book);
+    let path = file(name, book);
+    expect_printed(list_book().stdin(piped(book)), &text);
+    expect_printed(list_book().stdin(open(&path)), &text);
+    expect_printed(list_book().arg(&path), &text);
+}
+
+/// Cards with damage of all kinds, and one with a wrong symbol. There are few,
+/// as the reference takes its time for each.
+fn some_cards(random: &mut Random) -> Vec<Card> {
+    let mut cards: Vec<Card> = (0..40)
+        .map(|turn| samples::sent(random, 2, turn % 5).received)
+        .collect();
+    cards[7][3] = 729;
+    cards
+}
+
+fn body(random: &mut Random, cards: &[Card], count: usize) -> Vec<u8> {
+    let picked: Vec<Card> = (0..count).map(|_| *random.pick(cards)).collect();
+    samples::body(&picked)
+}
+
+/// Tunes with so many cards each, and rising numbers up to 9,999.
+fn book(random: &mut Random, cards: &[Card], counts: &[usize]) -> Vec<u8> {
+    let first = 10_000 - counts.len() as u16;
+    let tunes: Vec<(u16, Vec<u8>)> = (first..)
+        .zip(counts)
+        .map(|(number, count)| (number, body(random, cards, *count)))
+        .collect();
+    samples::book(&tunes)
+}
+
+/// Tunes with so many of `some_cards` each.
+fn mixed_book(counts: &[usize]) -> Vec<u8> {
+    let random = &mut Random::new(1);
+    let cards = some_cards(random);
+    book(random, &cards, counts)
+}
+
+/// Tunes with so many cards each, all with the widest values and damage.
+fn widest_book(counts: &[usize]) -> Vec<u8> {
+    let random = &mut Random::new(2);
+    let word = code::encode(2, &[26; 4], 6).expect("a message");
+    let card = samples::damaged(random, &word, 2);
+    book(random, &[card], counts)
+}
+
+/// The book with the longest listing, which is more than a pipe holds.
+fn longest_listing() -> Vec<u8> {
+    widest_book(&[1; 3_276])
+}
+
+#[test]
+fn examples() {
+    let mut count = 0;
+    for entry in fs::read_dir(repository("examples")).expect("a folder of examples") {
+        let path = entry.expect("a file").path();
+        if path
+            .extension()
+            .is_some_and(|extension| extension == "book")
+        {
+            check_listing("examples.book", &fs::read(path).expect("a book"));
+            count += 1;
+        }
+    }
+    assert!(count > 0, "there are no examples");
+}
+
+#[test]
+fn books() {
+    for counts in [&[1][..], &[4], &[1, 2, 3], &[30; 30], &[999, 1, 1_000]] {
+        check_listing("books.book", &mixed_book(counts));
+    }
+    // No tunes: nothing is printed.
+    check_listing("books.book", &[0, 0]);
+}
+
+#[test]
+fn refused_books() {
+    let good = mixed_book(&[2, 1]);
+    let changed = |place: usize, byte: u8| {
+        let mut book = good.clone();
+        book[place] = byte;
+        book
+    };
+    let books = [
+        (vec![], 5),
+        (vec![0], 5),
+        (changed(1, 200), 5),
+        (changed(2, 255), 6),
+        (changed(11, good[3]), 6),
+        (changed(7, 0), 7),
+        (changed(9, 1), 7),
+        (vec![0, 0, 0], 7),
+        (good[..good.len() - 1].to_vec(), 7),
+    ];
+    for (book, refusal) in books {
+        assert_eq!(listing(&book), format!("book refused {refusal}\n"));
+        check_listing("refused_books.book", &book);
+    }
+}
+
+/// Books of the largest size, and inputs of more bytes than a book may have.
+#[test]
+fn large_books() {
+    let largest = mixed_book(&[1, 5_457, 1]);
+    assert_eq!(largest.len(), LONGEST_BOOK - 2);
+    check_listing("large_books.book", &largest);
+    for (len, refusal) in [(65_535, 7), (65_536, 7), (65_537, 5), (200_000, 5)] {
+        let mut book = largest.clone();
+        book.resize(len, 0);
+        assert_eq!(listing(&book), format!("book refused {refusal}\n"));
+        check_listing("large_books.book", &book);
+    }
+    check_listing("large_books.book", &widest_book(&[5_460]));
+    check_listing("large_books.book", &longest_listing());
+}
+
+/// A book that arrives in pieces, with pauses.
+#[test]
+fn slow_input() {
+    let (small, large) = (mixed_book(&[3, 2]), longest_listing());
+    for (book, size) in [(&small, 1), (&small, 7), (&large, 4_000), (&large, 65_533)] {
+        let pieces = book.chunks(size).map(<[u8]>::to_vec).collect();
+        let input = pipe(pieces, milliseconds(2));
+        expect_printed(list_book().stdin(input), &listing(book));
+    }
+}
+
+#[test]
+fn inputs_that_fail() {
+    let folder = repository("examples");
+    expect_said(list_book().stdin(open(&folder)), CANNOT_READ);
+    expect_said(list_book().arg(&folder), CANNOT_READ);
+    expect_said(list_book().arg(repository("no/such.book")), CANNOT_OPEN);
+    expect_said(list_book().arg(""), CANNOT_OPEN);
+    let closed = r#"exec "$0" <&-"#;
+    expect_said(sh(closed).arg(program("list_book")), CANNOT_READ);
+}
+
+/// A read that fails after some bytes were read.
+#[test]
+fn input_that_fails_late() {
+    let book = fs::read(repository("examples/clean.book")).expect("an example");
+    for len in [1, book.len() - 1, book.len()] {
+        let (reader, mut writer) = io::pipe().expect("a pipe");
+        set_nonblocking(&reader);
+        writer.write_all(&book[..len]).expect("a pipe with room");
+        expect_said(list_book().stdin(reader), CANNOT_READ);
+        drop(writer);
+    }
+}
+
+#[test]
+fn arguments() {
+    let example = repository("examples/clean.book");
+    let usage = "usage: list_book [FILE]\n";
+    for more in 1..=3 {
+        let paths = vec![&example; 1 + more];
+        expect_said(list_book().args(paths), usage);
+    }
+}
+
+fn sh(script: &str) -> Command {
+    let mut command = Command::new("sh");
+    command.args(["-c", script]);
+    command
+}
+
+#[test]
+fn outputs_that_fail() {
+    for book in [longest_listing(), vec![0, 1], vec![]] {
+        let path = file("outputs_that_fail.book", &book);
+        let full = File::options().write(true).open("/dev/full");
+        let full = full.expect("an output that is always full");
+        expect_said(list_book().arg(&path).stdout(full), CANNOT_WRITE);
+        let closed = r#"exec "$0" <"$1" >&-"#;
+        let closed_named = r#"exec "$0" "$1" >&-"#;
+        for script in [closed, closed_named] {
+            let arguments = [&program("list_book"), &path];
+            expect_said(sh(script).args(arguments), CANNOT_WRITE);
+        }
+        assert!(fs::read(&path).unwrap() == book, "the book was changed");
+    }
+}
+
+/// A pipe as output that is not waited for, with a slow reader: a write takes
+/// what there is room for, or fails.
+#[test]
+fn nonblocking_output() {
+    let small = mixed_book(&[100]);
+    assert_eq!(from_nonblocking_pipe(&small), listing(&small).len());
+    let large = longest_listing();
+    let all = listing(&large).len();
+    // A pipe holds a page at least.
+    assert!((4_096..=all).contains(&from_nonblocking_pipe(&large)));
+}
+
+/// How much of the listing arrives. Panics unless it is a beginning, and the
+/// program says that it could not write exactly if there is more.
+fn from_nonblocking_pipe(book: &[u8]) -> usize {
+    let (mut reader, writer) = io::pipe().expect("a pipe");
+    set_nonblocking(&writer);
+    let child = list_book()
+        .stdin(piped(book))
+        .stdout(writer)
+        .stderr(Stdio::piped())
+        .spawn()
+        .expect("a program that runs");
+    let mut arrived = vec![];
+    let mut piece = [0; 10_000];
+    loop {
+        sleep(milliseconds(5));
+        match reader.read(&mut piece).expect("a pipe") {
+            0 => break,
+            len => arrived.extend(&piece[..len]),
+        }
+    }
+    let output = child.wait_with_output().expect("a program that ends");
+    assert_eq!(output.status.code(), Some(0));
+    let text = listing(book);
+    let is_beginning = text.as_bytes().starts_with(&arrived);
+    assert!(is_beginning, "{} bytes, not of the listing", arrived.len());
+    match arrived.len() < text.len() {
+        true => assert_one_line(&output.stderr, CANNOT_WRITE),
+        false => assert!(output.stderr.is_empty()),
+    }
+    arrived.len()
+}
+
+/// A program that is stopped while it waits for room in a pipe has written
+/// only a part when it goes on.
+#[test]
+fn interrupted_output() {
+    let book = longest_listing();
+    let (mut reader, writer) = io::pipe().expect("a pipe");
+    let child = list_book()
+        .stdin(piped(&book))
+        .stdout(writer)
+        .stderr(Stdio::piped())
+        .spawn()
+        .expect("a program that runs");
+    for signal in [SIGSTOP, SIGCONT] {
+        sleep(milliseconds(200));
+        // Sound: it changes nothing here. The process has not been waited
+        // for, so that its number is still its own.
+        let answer = unsafe { kill(child.id() as c_int, signal) };
+        assert_eq!(answer, 0, "{}", io::Error::last_os_error());
+    }
+    sleep(milliseconds(20));
+    let mut arrived = String::new();
+    reader.read_to_string(&mut arrived).expect("a text");
+    let output = child.wait_with_output().expect("a program that ends");
+    assert_eq!(String::from_utf8_lossy(&output.stderr), "");
+    assert!(arrived == listing(&book), "{} bytes", arrived.len());
+}
+
+/// What goes into a socket of messages tells one write from another.
+#[test]
+fn one_write() {
+    for book in [mixed_book(&[3, 2]), longest_listing(), vec![0]] {
+        let writes = writes(list_book().stdin(piped(&book)));
+        let lengths: Vec<usize> = writes.iter().map(Vec::len).collect();
+        assert_eq!(lengths, [listing(&book).len()]);
+        assert!(writes[0] == listing(&book).as_bytes());
+    }
+}
+
+/// What a program writes, by its writes.
+fn writes(command: &mut Command) -> Vec<Vec<u8>> {
+    let (ours, theirs) = UnixDatagram::pair().expect("two sockets");
+    let timeout = Some(milliseconds(10));
+    ours.set_read_timeout(timeout).expect("a socket");
+    let output = OwnedFd::from(theirs);
+    let mut child = command.stdout(output).spawn().expect("a program that runs");
+    let mut message = vec![0; 200_000];
+    let mut writes = vec![];
+    loop {
+        let ended = child.try_wait().expect("a program").is_some();
+        match ours.recv(&mut message) {
+            Ok(len) => writes.push(message[..len].to_vec()),
+            Err(_) if ended => return writes,
+            Err(_) => {}
+        }
+    }
+}
+
+fn lines(calls: &[Call]) -> String {
+    calls.iter().map(|call| call.line() + "\n").collect()
+}
+
+/// Runs calls through the program `cases`.
+fn check_calls(calls: &[Call]) {
+    let input = lines(calls);
+    assert!(input.len() <= 65_536, "{} bytes of calls", input.len());
+    let output = run(Command::new(program("cases")).stdin(piped(input.as_bytes())));
+    assert_eq!(String::from_utf8_lossy(&output.stderr), "");
+    let printed = String::from_utf8_lossy(&output.stdout);
+    assert_eq!(printed.lines().count(), calls.len());
+    for (call, line) in calls.iter().zip(printed.lines()) {
+        let accepted = call.accepted();
+        assert!(
+            accepted.iter().any(|outcome| outcome.line() == line),
+            "{}\ngives    {line}\nexpected {}",
+            call.line(),
+            accepted[0].line()
+        );
+    }
+}
+
+#[test]
+fn stored_calls() {
+    let calls = vectors::calls(STORED);
+    let stored = fs::read_to_string(repository("crates/cases/stdin")).expect("stored calls");
+    let fresh = stored == lines(&calls);
+    assert!(fresh, "crates/cases/stdin is not what `vectors` writes");
+    check_calls(&calls);
+}
+
+#[test]
+fn other_calls() {
+    check_calls(&[]);
+    for seed in [2, 3] {
+        check_calls(&vectors::calls(seed));
+    }
+    // Bodies of which any of several cards may be named as damaged.
+    let random = &mut Random::new(3);
+    let cards = some_cards(random);
+    let call = |_| Call::DamagedCard {
+        body: body(random, &cards, 10),
+    };
+    check_calls(&(0..100).map(call).collect::<Vec<Call>>());
+}

@@ -1,0 +1,171 @@
+-- The page that a sceptic reads first: what each operation of document 01 answers and leaves in the lists lent to it, as document 03 states it.
+-- src/lib.rt promises it of the operations themselves. To be read with rank/Definitions, coding/Code, coding/Promise, book/Layout, book/Open.
+-- Answers are in the numbers of document 01, which `outcome` and `told` (refusal/Answers), `spoken` (book/Reading) and `shown` (book/Bodies)
+-- give for each case of an enum. Beyond document 03, Mended and Struck have the only near message, Test-says the only mu, Weigh-says the bound,
+-- and Pull-says and Worn-says are new. Assumes nothing: these are definitions.
+-- Main: Code-says, Press-says, Weigh-says, Test-says, Mend-says, Open-says, Pull-says, Read-says, Length-says, Worn-says.
+--
+-- THE FIRST DEMAND: every operation ends, does nothing undefined, refuses bad input by number in a fixed order, and then changes nothing.
+-- That it ends and does nothing undefined is what a proof in Rattle is, and no operation has a `requires`. Each `-refusal` below has the numbers
+-- in their order, 0 for none, and each statement says that a refusal leaves the lists as they were.
+-- THE SECOND: encoding, testing and reading agree with the code exactly.
+-- THE THIRD: for every k from 1 to 5 and every card, decoding finds the one word within the radius, or refuses exactly if there is none.
+use mathlib.Core.Path.{_≡_}
+use mathlib.Core.Logic.{_⊎_, _≢_}
+use mathlib.Core.Bool.{Bool, true, false, _&&_, _||_, not, cond}
+use mathlib.Core.List.{List, []}
+use mathlib.Core.Option.{Option, none, some}
+use Prim.Native.Nat.{ℕ, zero, suc, _+_, _*_, _-_, _≤_, _<_}
+use lib.Dec.{ltb, eqb}
+use lib.ListN.{length, take, drop}
+use Rattle.algebra.specs.Tests.{any-above}
+use Rattle.algebra.specs.SmallField.{Small-field}
+use Rattle.refusal.specs.Answers.{Told, answer}
+use Rattle.rank.specs.Definitions.{at, rank, apart}
+use Rattle.rank.specs.Distance.{Rank-even}
+use Rattle.coding.specs.Code.{word, Near, test-values}
+use Rattle.coding.specs.Promise.{One-near, Far-apart, Words-cards, Mu, Mu-there, Test-tells}
+use Rattle.codec.specs.Answers.{k-bad}
+use Rattle.book.specs.Layout.{tunes, tune-number, offset, cards, body-good, card}
+use Rattle.book.specs.Open.{numbers-good, bodies-good}
+use Rattle.book.specs.Reading.{Spoken, cards-in}
+use Rattle.book.specs.Bodies.{Shown}
+
+-- THE CODE ITSELF: One-near is the third demand's, the others are the second's
+pub record Code-says : Type 0 where
+  pub small-field : Small-field
+  pub rank-even : Rank-even
+  pub far-apart : Far-apart
+  pub words-cards : Words-cards
+  pub mu-there : Mu-there
+  pub test-tells : Test-tells
+  pub one-near : One-near
+
+-- the one message near a card, and that there is none
+abbrev pub The-near : (k : ℕ) → (c m : List ℕ) → Type 0
+The-near k c m = Near k c m × ((p : List ℕ) → Near k c p → p ≡ m)
+
+abbrev pub None-near : (k : ℕ) → (c : List ℕ) → Type 0
+None-near k c = (p : List ℕ) → Near k c p → ⊥
+
+-- PRESS: 1 for k, 2 for a length, 3 for a value above 26; else the word of the message
+unfoldable pub press-refusal : (k : ℕ) → (m : List ℕ) → (room : ℕ) → ℕ
+press-refusal k m w =
+    cond (k-bad k) 1 (cond (not (eqb (length m) (2 * k) && eqb w 6)) 2 (cond (any-above 26 m) 3 0))
+
+unfoldable pub Press-says : (k : ℕ) → (m : List ℕ) → (r : ℕ) → (w w-now : List ℕ) → Type 0
+Press-says k m r w v =
+    (r ≡ press-refusal k m (length w)) × (v ≡ cond (eqb (press-refusal k m (length w)) 0) (word k m) w)
+
+-- WEIGH: 2 for the length, 3 for a symbol above 728; else the rank, 0 to 6
+unfoldable pub weigh-refusal : List ℕ → ℕ
+weigh-refusal c = cond (not (eqb (length c) 6)) 2 (cond (any-above 728 c) 3 0)
+
+unfoldable pub Weigh-says : List ℕ → Told → Type 0
+Weigh-says c r = (r ≡ answer (weigh-refusal c) (rank c)) × (r .value ≤ 6)
+
+-- TEST: 1, 2, 3; else the test values, by the only list mu
+unfoldable pub test-refusal : (k : ℕ) → (c : List ℕ) → (room : ℕ) → ℕ
+test-refusal k c t =
+    cond (k-bad k) 1 (cond (not (eqb (length c) 6 && eqb t (12 - 2 * k))) 2 (cond (any-above 728 c) 3 0))
+
+unfoldable pub Test-as : (refusal : ℕ) → (k : ℕ) → (c : List ℕ) → (r : ℕ) → (t t-now : List ℕ) → Type 0
+Test-as zero k c r t z = (r ≡ 0) × ((mu : List ℕ) × Mu k mu × (z ≡ test-values k mu c))
+Test-as (suc n) k c r t z = (r ≡ suc n) × (z ≡ t)
+
+unfoldable pub Test-says : (k : ℕ) → (c : List ℕ) → (r : ℕ) → (t t-now : List ℕ) → Type 0
+Test-says k c r t z = Test-as (test-refusal k c (length t)) k c r t z
+
+-- MEND: 1, 2, 3; else mended, with the word near the card, its message and the rank of the difference, or hopeless, 4
+unfoldable pub mend-refusal : (k : ℕ) → (c : List ℕ) → (w m : ℕ) → ℕ
+mend-refusal k c w m =
+    cond (k-bad k) 1 (cond (not (eqb (length c) 6 && (eqb w 6 && eqb m (2 * k)))) 2 (cond (any-above 728 c) 3 0))
+
+unfoldable pub Mended : (k : ℕ) → (c : List ℕ) → Told → (w-now m-now : List ℕ) → Type 0
+Mended k c r v n = The-near k c n × (v ≡ word k n) × (r ≡ record { refusal = 0; value = apart (word k n) c })
+
+unfoldable pub Hopeless : (k : ℕ) → (c : List ℕ) → Told → (w w-now m m-now : List ℕ) → Type 0
+Hopeless k c r w v m n = None-near k c × (v ≡ w) × (n ≡ m) × (r ≡ record { refusal = 4; value = 0 })
+
+unfoldable pub Mend-as : (refusal : ℕ) → (k : ℕ) → (c : List ℕ) → Told → (w w-now m m-now : List ℕ) → Type 0
+Mend-as zero k c r w v m n = Mended k c r v n ⊎ Hopeless k c r w v m n
+Mend-as (suc x) k c r w v m n = (v ≡ w) × (n ≡ m) × (r ≡ record { refusal = suc x; value = 0 })
+
+unfoldable pub Mend-says : (k : ℕ) → (c : List ℕ) → Told → (w w-now m m-now : List ℕ) → Type 0
+Mend-says k c r w v m n = Mend-as (mend-refusal k c (length w) (length m)) k c r w v m n
+
+-- OPEN: 5, 6, 7; else the number of tunes
+unfoldable pub open-refusal : List ℕ → ℕ
+open-refusal bs =
+    cond (ltb 65536 (length bs) || (ltb (length bs) 2 || ltb (length bs) (2 + 8 * tunes bs))) 5
+    (cond (not (numbers-good (tunes bs) 0 1 bs)) 6 (cond (not (bodies-good (tunes bs) 0 (2 + 8 * tunes bs) bs)) 7 0))
+
+unfoldable pub Open-says : List ℕ → Told → Type 0
+Open-says bs r = r ≡ answer (open-refusal bs) (tunes bs)
+
+-- PULL: 5, 6, 7; else the part of the one entry that bears the tune number, or 8. The part is empty exactly on a refusal
+abbrev pub Bears : List ℕ → (t e : ℕ) → Type 0
+Bears bs t e = (e < tunes bs) × (tune-number bs e ≡ t)
+
+unfoldable pub Pulled : List ℕ → (t r : ℕ) → (part : List ℕ) → Type 0
+Pulled bs t r p =
+    (r ≡ 0) × (p ≢ []) × ((e : ℕ) × Bears bs t e × ((f : ℕ) → Bears bs t f → f ≡ e) × (p ≡ take (12 * cards bs e) (drop (offset bs e) bs)))
+
+unfoldable pub Missing : List ℕ → (t r : ℕ) → (part : List ℕ) → Type 0
+Missing bs t r p = (r ≡ 8) × (p ≡ []) × ((e : ℕ) → Bears bs t e → ⊥)
+
+unfoldable pub Pull-as : (refusal : ℕ) → List ℕ → (t r : ℕ) → (part : List ℕ) → Type 0
+Pull-as zero bs t r p = Pulled bs t r p ⊎ Missing bs t r p
+Pull-as (suc n) bs t r p = (r ≡ suc n) × (p ≡ [])
+
+unfoldable pub Pull-says : List ℕ → (t r : ℕ) → (part : List ℕ) → Type 0
+Pull-says bs t r p = Pull-as (open-refusal bs) bs t r p
+
+-- READ: 2 for the body, 9 for the card number, 3; else the strike of the message near the card with its damage, or 4
+unfoldable pub read-refusal : (body : List ℕ) → (n : ℕ) → ℕ
+read-refusal bs n =
+    cond (not (body-good bs)) 2 (cond (eqb n 0 || ltb (cards-in bs) n) 9 (cond (any-above 728 (card bs n)) 3 0))
+
+unfoldable pub Struck : (c m : List ℕ) → Spoken → Type 0
+Struck c m r =
+    The-near 2 c m × (r ≡ record { refusal = 0; bell = at m 0; force = at m 1; delay = 27 * at m 2 + at m 3; damage = apart (word 2 m) c })
+
+unfoldable pub refused : (n : ℕ) → Spoken → Type 0
+refused n r = r ≡ record { refusal = n; bell = 0; force = 0; delay = 0; damage = 0 }
+
+unfoldable pub Read-card : (c : List ℕ) → Spoken → Type 0
+Read-card c r = ((m : List ℕ) × Struck c m r) ⊎ (None-near 2 c × refused 4 r)
+
+unfoldable pub Read-as : (refusal : ℕ) → (c : List ℕ) → Spoken → Type 0
+Read-as zero c r = Read-card c r
+Read-as (suc n) c r = refused (suc n) r
+
+unfoldable pub Read-says : (body : List ℕ) → (n : ℕ) → Spoken → Type 0
+Read-says bs n r = Read-as (read-refusal bs n) (card bs n) r
+
+-- LENGTH: 2 for the body; else the sum of the delays that Read says of all cards, 0 of a refused one
+pub data Delays (bs : List ℕ) : (left n : ℕ) → (total : ℕ) → Type 0 where
+  at-end : (n : ℕ) → Delays bs 0 n 0
+  one-card : (k n d : ℕ) (r : Spoken) → Read-says bs n r → Delays bs k (suc n) d → Delays bs (suc k) n (r .delay + d)
+
+unfoldable pub Length-as : (good : Bool) → (body : List ℕ) → Told → Type 0
+Length-as true bs r = (r .refusal ≡ 0) × Delays bs (cards-in bs) 1 (r .value)
+Length-as false bs r = r ≡ record { refusal = 2; value = 0 }
+
+unfoldable pub Length-says : (body : List ℕ) → Told → Type 0
+Length-says bs r = Length-as (body-good bs) bs r
+
+-- WORN: 2 for the body; else a card that Read refuses or mends with rank 1 or more, or none exactly if there is no such card
+unfoldable pub Damaged : (body : List ℕ) → (n : ℕ) → Type 0
+Damaged bs n = (1 ≤ n) × (n ≤ cards-in bs) × ((r : Spoken) × Read-says bs n r × ((1 ≤ r .refusal) ⊎ (1 ≤ r .damage)))
+
+unfoldable pub Worn-card : (body : List ℕ) → Option ℕ → Type 0
+Worn-card bs (some n) = Damaged bs n
+Worn-card bs none = (n : ℕ) → Damaged bs n → ⊥
+
+unfoldable pub Worn-as : (good : Bool) → (body : List ℕ) → Shown → Type 0
+Worn-as true bs r = (r .refusal ≡ 0) × Worn-card bs (r .card)
+Worn-as false bs r = r ≡ record { refusal = 2; card = none }
+
+unfoldable pub Worn-says : (body : List ℕ) → Shown → Type 0
+Worn-says bs r = Worn-as (body-good bs) bs r

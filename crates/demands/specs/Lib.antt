@@ -1,0 +1,8 @@
+-- What is demanded of the operations and of the code. In reading order.
+-- The page to read first (document 03's statements)
+pub mod Demands
+-- What is said leaves nothing free
+pub mod Settled
+-- What is said holds: of the code, Press, Weigh, Test and Mend; of Open, Pull, Read, Length and Worn
+pub mod CardDemands
+pub mod BookDemands

@@ -1,0 +1,52 @@
+-- `listing::tunes::write_all` meets its contract: it goes by what `open` answers, as `listing` does. Assumes nothing.
+use mathlib.Core.Path.{_≡_, ap}
+use native.Mathlib.Omega.{arith}
+use denote.Ref.{now}
+use borrow.Author.Needs.{needs}
+use lib.ListN.{length}
+use Rattle.book.specs.Layout.{tunes}
+use Rattle.book.specs.Accepted.{Accepted}
+use Rattle.refusal.specs.Answers.{told-value}
+use Rattle.text.specs.Text.{book-refused}
+use Rattle.listing.specs.Listing.{listing}
+use Rattle.listing.specs.Lines.{listing-accepted, opened-refused}
+use Rattle.listing.proofs.tunes.write_all.Statement.{statement}
+use Rattle.listing.proofs.tunes.write_all.Tie as tie
+
+-- the book was refused: its listing is one line
+refused : (c : tie.After-number) → let s = c .before .before .before .before .before .before .before .before in
+    listing (now (s .args .book)) ≡ book-refused (c .number .result)
+refused c =
+    let w = c .before .before .before in
+    opened-refused _ _ _ _ (w .why .given .1) (w .before .before .«open» .ensures) (c .number .ensures)
+
+-- the book was accepted: the listing is that of its tunes
+opened : (c : tie.After-count) → let s = c .before .before .before .before .before in
+    Accepted (now (s .args .book)) × (c .count .given .0 .0 ≡ tunes (now (s .args .book)))
+opened c = told-value _ _ _ _ (c .count .given .1) (c .before .before .«open» .ensures)
+
+write-tunes-requires : tie.Need-write-tunes-requires
+write-tunes-requires c κs =
+    let o = opened (c .before .before) in
+    (o .0, (o .1, omega (arith, ap length (listing-accepted _ (o .0)))))
+
+returns-2 : tie.Need-returns-2
+returns-2 c =
+    let o = opened (c .before .before .before .before .before) in
+    rw (listing-accepted _ (o .0)) (c .before .before .write-tunes .ensures)
+
+pub write-all-spec : {M : Type 1} → statement M
+write-all-spec =
+    tie.close
+    (tie.spec
+    (λ c κs. search needs)
+    (λ c. search needs)
+    (λ c κs. search needs)
+    (λ c κs. omega (arith, ap length (refused c)))
+    (λ c. search needs)
+    (λ c. search needs)
+    write-tunes-requires
+    (λ c. search needs)
+    (λ c. rw (refused (c .before .before .before)) (c .before .before .write-book-refused .ensures))
+    (λ c. search needs)
+    returns-2)

@@ -1,0 +1,139 @@
+-- The book that document 01 lists ("Cards to try"), and its listing to the byte, from the definitions. Assumes nothing.
+-- Main: example-listed.
+use mathlib.Core.Path.{_≡_, refl, sym, _∙_, ap}
+use mathlib.Core.Bool.{true}
+use mathlib.Core.List.{List, [], _∷_, _++_}
+use Prim.Native.Nat.{ℕ, _+_, _≤_}
+use lib.Dec.{lit≤}
+use lib.ListN.{take, drop}
+use Rattle.algebra.specs.Linear.{computing}
+use Rattle.algebra.specs.Field.{power, minus}
+use Rattle.algebra.specs.Tests.{any-above}
+use Rattle.refusal.specs.Answers.{number}
+use Rattle.refusal.specs.declared.Refusal.the-variants.{Range}
+use Rattle.rank.specs.Definitions.{at, is-card, difference, columns, subtract, pivot, cleared, rank-with, rank-from, rank, apart}
+use Rattle.coding.specs.Code.{inner, inner-sum, value, word-from, word, is-message, radius}
+use Rattle.book.specs.Layout.{big, big-four, tunes, part-of, body-good, symbols-from, card}
+use Rattle.book.specs.Open.{size-bad, numbers-good, numbers-bad, bodies-good, bodies-bad, open-refusal}
+use Rattle.book.specs.Reading.{bell-of, force-of, delay-of, only, struck, reading}
+use Rattle.book.specs.Bodies.{delays-from, total-delay}
+use Rattle.book.specs.Cards.{said-range, read-there, there-card}
+use Rattle.book.specs.Strikes.{near-read, word-read}
+use Rattle.text.specs.Text.{ascii, decimal-from, decimal, spaced, word-line}
+use Rattle.listing.specs.Listing.{strike-line, refused-line, card-line, card-lines, tune-line, ticks-line, body-text, tune-text, tune-texts, listing}
+use Rattle.listing.specs.Lines.{listing-accepted}
+
+-- cards 1 3 9 27 81 243; 3 279 233 650 423 163; 2 3 9 27 81 243; 729 3 9 27 81 243
+abbrev body : List ℕ
+body =
+    0 ∷ 1 ∷ 0 ∷ 3 ∷ 0 ∷ 9 ∷ 0 ∷ 27 ∷ 0 ∷ 81 ∷ 0 ∷ 243
+    ∷ 0 ∷ 3 ∷ 1 ∷ 23 ∷ 0 ∷ 233 ∷ 2 ∷ 138 ∷ 1 ∷ 167 ∷ 0 ∷ 163
+    ∷ 0 ∷ 2 ∷ 0 ∷ 3 ∷ 0 ∷ 9 ∷ 0 ∷ 27 ∷ 0 ∷ 81 ∷ 0 ∷ 243
+    ∷ 2 ∷ 217 ∷ 0 ∷ 3 ∷ 0 ∷ 9 ∷ 0 ∷ 27 ∷ 0 ∷ 81 ∷ 0 ∷ 243
+    ∷ []
+
+abbrev pub example : List ℕ
+example = 0 ∷ 1 ∷ 0 ∷ 7 ∷ 0 ∷ 0 ∷ 0 ∷ 10 ∷ 0 ∷ 4 ∷ body
+
+abbrev pub example-text : List ℕ
+example-text = ascii "tune 7 4\n1 1 0 0 0\n2 0 0 1 0\n3 1 0 0 1\n4 refused 3\nticks 1\n"
+
+first-message : List ℕ
+first-message = 1 ∷ 0 ∷ 0 ∷ 0 ∷ []
+
+second-message : List ℕ
+second-message = 0 ∷ 0 ∷ 0 ∷ 1 ∷ []
+
+-- what is read of the four cards
+good : body-good body ≡ true
+unfolding body-good
+good = refl
+
+first-card : card body 1 ≡ word 2 first-message
+unfolding computing card symbols-from big power word word-from value inner-sum inner at first-message
+first-card = refl
+
+second-card : card body 2 ≡ word 2 second-message
+unfolding computing card symbols-from big power word word-from value inner-sum inner at second-message
+second-card = refl
+
+first-whole : is-message 2 first-message ≡ true
+unfolding is-message any-above first-message
+first-whole = refl
+
+second-whole : is-message 2 second-message ≡ true
+unfolding is-message any-above second-message
+second-whole = refl
+
+third-card : is-card (card body 3) ≡ true
+unfolding card symbols-from big is-card any-above
+third-card = refl
+
+third-apart : apart (word 2 first-message) (card body 3) ≡ 1
+unfolding computing card symbols-from big power word word-from value inner-sum inner at first-message difference columns subtract pivot cleared rank-with rank-from rank apart minus
+third-apart = refl
+
+fourth-range : any-above 728 (card body 4) ≡ true
+unfolding card symbols-from big any-above
+fourth-range = refl
+
+read-first : reading body 1 ≡ struck first-message 0
+read-first = word-read body 1 good (lit≤ tt) (lit≤ tt) first-message first-whole first-card
+
+read-second : reading body 2 ≡ struck second-message 0
+read-second = word-read body 2 good (lit≤ tt) (lit≤ tt) second-message second-whole second-card
+
+near-enough : apart (word 2 first-message) (card body 3) ≤ radius 2
+unfolding radius
+near-enough = rw third-apart (lit≤ tt)
+
+read-third : reading body 3 ≡ struck first-message 1
+read-third =
+    near-read body 3 good (lit≤ tt) (lit≤ tt) first-message third-card (record { message = first-whole; within = near-enough })
+    ∙ ap (struck first-message) third-apart
+
+read-fourth : reading body 4 ≡ only (number Range)
+read-fourth = sym (said-range (card body 4) fourth-range ∙ read-there body 4 good (there-card body 4 (lit≤ tt) (lit≤ tt)))
+
+-- its lines, in the terms of what is read
+lines : (b : List ℕ) → card-lines 4 b ≡ card-line 1 (reading b 1) ++ card-line 2 (reading b 2) ++ card-line 3 (reading b 3) ++ card-line 4 (reading b 4)
+unfolding card-lines
+lines b = refl
+
+delays : (b : List ℕ) → delays-from 4 1 b ≡ reading b 1 .delay + (reading b 2 .delay + (reading b 3 .delay + (reading b 4 .delay + 0)))
+unfolding delays-from
+delays b = refl
+
+total : total-delay body ≡ 1
+unfolding total-delay struck only delay-of at first-message second-message
+total = delays body ∙ rw (read-first, read-second, read-third, read-fourth)
+
+said-lines : card-line 1 (struck first-message 0) ++ card-line 2 (struck second-message 0) ++ card-line 3 (struck first-message 1)
+    ++ card-line 4 (only (number Range)) ++ ticks-line 1
+    ≡ drop 9 example-text
+unfolding card-line strike-line refused-line ticks-line word-line spaced decimal decimal-from struck only bell-of force-of delay-of at first-message second-message
+said-lines = refl
+
+body-listed : body-text body ≡ drop 9 example-text
+unfolding body-text
+body-listed = ap (λ (l : List ℕ). l ++ ticks-line (total-delay body)) (lines body) ∙ rw (read-first, read-second, read-third, read-fourth, total) said-lines
+
+accepted : open-refusal example ≡ 0
+unfolding open-refusal size-bad numbers-bad numbers-good bodies-bad bodies-good big big-four
+accepted = refl
+
+its-part : part-of example 0 ≡ body
+unfolding part-of big big-four
+its-part = refl
+
+one-tune : tune-texts (tunes example) example ≡ tune-line 7 4 ++ body-text (part-of example 0)
+unfolding tune-texts tune-text big
+one-tune = refl
+
+first-line : tune-line 7 4 ≡ take 9 example-text
+unfolding tune-line spaced decimal decimal-from
+first-line = refl
+
+-- THE LISTING is what document 01 prints
+pub example-listed : listing example ≡ example-text
+example-listed = listing-accepted example accepted ∙ one-tune ∙ rw (its-part, body-listed, first-line)

@@ -1,0 +1,57 @@
+-- The text that lists a tune book (document 01: the listing program), as the list of its bytes. Assumes nothing: these are definitions.
+-- Main: card-line, card-lines, tune-text, tune-texts, listing, longest.
+use mathlib.Core.Bool.{cond}
+use mathlib.Core.List.{List, [], _++_}
+use Prim.Native.Nat.{ℕ, zero, suc}
+use lib.Dec.{eqb}
+use Rattle.book.specs.Layout.{tunes, tune-number, cards, part-of}
+use Rattle.book.specs.Open.{open-refusal}
+use Rattle.book.specs.Reading.{Spoken, cards-in, reading}
+use Rattle.book.specs.Bodies.{total-delay}
+use Rattle.text.specs.Text.{ascii, line-end, decimal, spaced, word-line, book-refused}
+
+-- CARD LINES: card, bell, force, delay, rank of damage
+unfoldable pub strike-line : (n : ℕ) → (bell force delay damage : ℕ) → List ℕ
+strike-line n b f d r = decimal n ++ spaced b ++ spaced f ++ spaced d ++ spaced r ++ line-end
+
+-- or card and refusal
+unfoldable pub refused-line : (n : ℕ) → (refusal : ℕ) → List ℕ
+refused-line n m = decimal n ++ ascii " refused" ++ spaced m ++ line-end
+
+-- of card n, of which this is said
+unfoldable pub card-line : (n : ℕ) → Spoken → List ℕ
+card-line n s =
+    cond (eqb (s .refusal) 0) (strike-line n (s .bell) (s .force) (s .delay) (s .damage)) (refused-line n (s .refusal))
+
+-- of the first k cards of a body
+unfoldable pub card-lines : (k : ℕ) → (body : List ℕ) → List ℕ
+card-lines zero bs = []
+card-lines (suc k) bs = card-lines k bs ++ card-line (suc k) (reading bs (suc k))
+
+-- A TUNE. First line: tune number, cards. Last: Length
+unfoldable pub tune-line : (tune cards : ℕ) → List ℕ
+tune-line t c = ascii "tune" ++ spaced t ++ spaced c ++ line-end
+
+unfoldable pub ticks-line : (ticks : ℕ) → List ℕ
+ticks-line t = word-line (ascii "ticks") t
+
+-- the lines of a body: of its cards, and the last
+unfoldable pub body-text : (body : List ℕ) → List ℕ
+body-text bs = card-lines (cards-in bs) bs ++ ticks-line (total-delay bs)
+
+-- of entry e of the contents
+unfoldable pub tune-text : List ℕ → (e : ℕ) → List ℕ
+tune-text bs e = tune-line (tune-number bs e) (cards bs e) ++ body-text (part-of bs e)
+
+-- of the first k entries, in contents order
+unfoldable pub tune-texts : (k : ℕ) → List ℕ → List ℕ
+tune-texts zero bs = []
+tune-texts (suc k) bs = tune-texts k bs ++ tune-text bs k
+
+-- THE LISTING of a book: its tunes, or its one line where it is refused
+unfoldable pub listing : List ℕ → List ℕ
+listing bs = cond (eqb (open-refusal bs) 0) (tune-texts (tunes bs) bs) (book-refused (open-refusal bs))
+
+-- no listing has more bytes than this (proved in Sizes)
+abbrev pub longest : ℕ
+longest = 131072

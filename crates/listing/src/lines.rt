@@ -1,0 +1,67 @@
+// The lines of a listing, each written from a place on. Each function answers the next place.
+// Assumes nothing: each asks that there is room.
+ghost use Prim.Native.Nat.{_+_, _≤_};
+ghost use lib.ListN.{length};
+ghost use Rattle.book.specs.Reading.{spoken};
+ghost use Rattle.listing.specs.Listing.{strike-line, refused-line, card-line, tune-line, ticks-line};
+ghost use Rattle.text.specs.Writing.{Wrote};
+use book::Reading;
+use book::Strike;
+use text::write_byte;
+use text::write_decimal;
+use text::write_spaced;
+use text::write_word;
+
+// The line of a card that was read: card, bell, force, delay, rank of damage.
+fn write_strike(text: &mut [u8], at: usize, n: u32, s: Strike) -> usize
+    requires { ⌜ at + length (strike-line n (s .bell) (s .force) (s .delay) (s .damage)) ≤ length (now text) ⌝ }
+    ensures { λ r. ⌜ Wrote (now (text .entry)) at (strike-line n (s .bell) (s .force) (s .delay) (s .damage)) (now (text .exit)) r ⌝ }
+{
+    let number_end = write_decimal(text, at, n);
+    let bell_end = write_spaced(text, number_end, s.bell);
+    let force_end = write_spaced(text, bell_end, s.force);
+    let delay_end = write_spaced(text, force_end, s.delay);
+    let damage_end = write_spaced(text, delay_end, s.damage);
+    write_byte(text, damage_end, b'\n')
+}
+
+// The line of a card that was refused: card and refusal.
+fn write_refused_card(text: &mut [u8], at: usize, n: u32, refusal: u32) -> usize
+    requires { ⌜ at + length (refused-line n refusal) ≤ length (now text) ⌝ }
+    ensures { λ r. ⌜ Wrote (now (text .entry)) at (refused-line n refusal) (now (text .exit)) r ⌝ }
+{
+    let number_end = write_decimal(text, at, n);
+    let word_end = write_word(text, number_end, b" refused");
+    let refusal_end = write_spaced(text, word_end, refusal);
+    write_byte(text, refusal_end, b'\n')
+}
+
+// The line of a card.
+pub(crate) fn write_card(text: &mut [u8], at: usize, n: u32, read: Reading) -> usize
+    requires { ⌜ at + length (card-line n (spoken read)) ≤ length (now text) ⌝ }
+    ensures { λ r. ⌜ Wrote (now (text .entry)) at (card-line n (spoken read)) (now (text .exit)) r ⌝ }
+{
+    match read {
+        Reading::Strike(s) => write_strike(text, at, n, s),
+        Reading::Refused(why) => write_refused_card(text, at, n, refusal::number(why)),
+    }
+}
+
+// The first line of a tune: tune number, cards.
+pub(crate) fn write_tune_line(text: &mut [u8], at: usize, number: u32, cards: u32) -> usize
+    requires { ⌜ at + length (tune-line number cards) ≤ length (now text) ⌝ }
+    ensures { λ r. ⌜ Wrote (now (text .entry)) at (tune-line number cards) (now (text .exit)) r ⌝ }
+{
+    let word_end = write_word(text, at, b"tune");
+    let number_end = write_spaced(text, word_end, number);
+    let cards_end = write_spaced(text, number_end, cards);
+    write_byte(text, cards_end, b'\n')
+}
+
+// The last line of a tune: the sum of its delays.
+pub(crate) fn write_ticks(text: &mut [u8], at: usize, ticks: u32) -> usize
+    requires { ⌜ at + length (ticks-line ticks) ≤ length (now text) ⌝ }
+    ensures { λ r. ⌜ Wrote (now (text .entry)) at (ticks-line ticks) (now (text .exit)) r ⌝ }
+{
+    text::write_word_line(text, at, b"ticks", ticks)
+}

@@ -1,0 +1,123 @@
+-- Bytes stored in a list that was lent, from a place on. What is written after what was written is one text. Assumes nothing.
+-- Main: written-front; Wrote, wrote-none, wrote-byte, wrote-then, wrote-length; copying-start, copying-next, copying-end; room-then, pieces-room;
+-- room-short, room-enough.
+use mathlib.Core.Path.{_≡_, sym, _∙_, ap}
+use mathlib.Core.List.{List, [], _∷_, _++_}
+use Prim.Native.Nat.{ℕ, zero, suc, _+_, _≤_, _<_}
+use native.Mathlib.Decide.{ℕ-discrete}
+use native.Mathlib.Numerals.{add-one}
+use native.Mathlib.Omega.{arith}
+use lib.ListN.{length, take, drop, getD, set, length-append}
+use lib.Seq.{take-all, take-append-seam, take-suc, sets, length-sets, sets-eq}
+use borrow.Author.Tests.{lt-ltb, le-ltb}
+use Rattle.refusal.specs.Answers.{number}
+use Rattle.refusal.specs.declared.Refusal.the-variants.{Length}
+use Rattle.text.specs.Text.{written, room-refusal}
+
+-- the bytes were written and had room, and the next place is behind them
+pub record Wrote (old : List ℕ) (a : ℕ) (bytes new : List ℕ) (next : ℕ) : Type 0 where
+  pub room : a + length bytes ≤ length old
+  pub text : new ≡ written old a bytes
+  pub after : next ≡ a + length bytes
+
+-- IN STORES, one byte after another: that has no side condition
+stored : (old : List ℕ) (a : ℕ) (x : List ℕ) → a + length x ≤ length old → written old a x ≡ sets old a x
+unfolding written
+stored old a x h = sym (sets-eq x old a h)
+
+sets-append : (old : List ℕ) (a : ℕ) (x y : List ℕ) → sets old a (x ++ y) ≡ sets (sets old a x) (a + length x) y
+sets-append old a [] y = let e : a + 0 ≡ a = omega arith in rw e
+sets-append old a (b ∷ x) y = let e : a + suc (length x) ≡ suc a + length x = omega arith in rw e (sets-append (set old a b) (suc a) x y)
+
+written-length : (old : List ℕ) (a : ℕ) (x : List ℕ) → a + length x ≤ length old → length (written old a x) ≡ length old
+written-length old a x h = ap length (stored old a x h) ∙ length-sets old a x
+
+-- THE LAW OF COMPOSITION
+written-then : (old : List ℕ) (a : ℕ) (x y : List ℕ) → a + length (x ++ y) ≤ length old
+    → written (written old a x) (a + length x) y ≡ written old a (x ++ y)
+written-then old a x y h =
+    let l = length-append x y in
+    let e = stored old a x (omega arith) in
+    let n = length-sets old a x in
+    rw e (stored (sets old a x) (a + length x) y (omega arith) ∙ sym (sets-append old a x y) ∙ sym (stored old a (x ++ y) h))
+
+-- what was written at the beginning is the beginning
+pub written-front : (old x : List ℕ) → take (length x) (written old 0 x) ≡ x
+unfolding written
+written-front old x = take-append-seam x (drop (0 + length x) old)
+
+-- NOTHING, AND ONE BYTE
+pub wrote-none : (old : List ℕ) (a : ℕ) → a ≤ length old → Wrote old a [] old a
+wrote-none old a h = record { room = omega arith; text = sym (stored old a [] (omega arith)); after = omega arith }
+
+pub wrote-byte : (old : List ℕ) (a b : ℕ) → a < length old → Wrote old a (b ∷ []) (set old a b) (a + 1)
+wrote-byte old a b h = record { room = omega arith; text = sym (stored old a (b ∷ []) (omega arith)); after = omega arith }
+
+-- ONE TEXT AFTER ANOTHER
+pub wrote-length : {old : List ℕ} {a : ℕ} {x new : List ℕ} {next : ℕ} → Wrote old a x new next → length new ≡ length old
+wrote-length {old} {a} {x} w = ap length (w .text) ∙ written-length old a x (w .room)
+
+pub wrote-then : {old : List ℕ} {a : ℕ} {x mid : List ℕ} {b : ℕ} {y new : List ℕ} {next : ℕ}
+    → Wrote old a x mid b → Wrote mid b y new next → Wrote old a (x ++ y) new next
+wrote-then {old} {a} {x} {mid} {b} {y} {new} {next} v w =
+    let l = length-append x y in
+    let n = wrote-length v in
+    let h : a + length (x ++ y) ≤ length old = omega (arith, v .after, w .room) in
+    record {
+      room = h;
+      text = w .text ∙ rw (v .text, v .after) (written-then old a x y h);
+      after = omega (arith, v .after, w .after);
+    }
+
+-- A WORD BYTE BY BYTE: its first i bytes were written
+pub record Copying (old : List ℕ) (a : ℕ) (word new : List ℕ) (i : ℕ) : Type 0 where
+  pub within : i ≤ length word
+  pub wrote : Wrote old a (take i word) new (a + i)
+
+pub copying-start : (old : List ℕ) (a : ℕ) (word : List ℕ) → a ≤ length old → Copying old a word old 0
+copying-start old a word h =
+    let e : a + 0 ≡ a = omega arith in
+    record { within = omega arith; wrote = rw e (wrote-none old a h) }
+
+module _ {old : List ℕ} {a : ℕ} {word new : List ℕ} {i : ℕ} (g : Copying old a word new i) where
+  pub copying-next : a + length word ≤ length old → i < length word → Copying old a word (set new (a + i) (getD word i 0)) (i + 1)
+  copying-next r h =
+      let n = wrote-length (g .wrote) in
+      let e : a + (i + 1) ≡ a + i + 1 = omega arith in
+      record {
+        within = omega arith;
+        wrote = rw (e, add-one i, take-suc word i 0 h) (wrote-then (g .wrote) (wrote-byte new (a + i) (getD word i 0) (omega arith)));
+      }
+
+  pub copying-end : length word ≤ i → Wrote old a word new (a + i)
+  copying-end h = rw (take-all i word h) at (g .wrote)
+
+-- ROOM for two texts is room for the second after the first
+pub room-then : {old : List ℕ} {a : ℕ} {x mid : List ℕ} {b : ℕ} → Wrote old a x mid b → (y : List ℕ)
+    → a + length (x ++ y) ≤ length old → b + length y ≤ length mid
+room-then {old} {a} {x} w y h = let l = length-append x y in let n = wrote-length w in omega (arith, w .after)
+
+-- A TEXT IN PIECES: the first k + 1 are the first k and the next
+module _ (first piece : ℕ → List ℕ) (step : (k : ℕ) → first (suc k) ≡ first k ++ piece k) where
+  pieces-rise : (j k : ℕ) → j ≤ k → length (first j) ≤ length (first k)
+  pieces-rise j zero h = let z : j ≡ 0 = omega arith in rw z (omega arith)
+  pieces-rise j (suc k) h =
+      elim (ℕ-discrete j (suc k)) [
+        | yes p ↦ rw p (omega arith)
+        | no n ↦ omega (arith, pieces-rise j k (omega arith), ap length (step k), length-append (first k) (piece k))
+      ]
+
+  -- where all have room, the next has room after those before it
+  pub pieces-room : {old : List ℕ} {a : ℕ} {new : List ℕ} {b : ℕ} (k m : ℕ) → Wrote old a (first k) new b → k < m
+      → a + length (first m) ≤ length old → b + length (piece k) ≤ length new
+  pieces-room {old} {a} k m w h r =
+      room-then w (piece k) (rw (← step k) (omega (arith, pieces-rise (suc k) m h)))
+
+-- THE LIST LENT is too short for the longest text, or long enough
+pub room-short : (n : ℕ) (t : List ℕ) → length t < n → room-refusal n t ≡ number Length
+unfolding room-refusal
+room-short n t h = rw (lt-ltb (length t) n h)
+
+pub room-enough : (n : ℕ) (t : List ℕ) → n ≤ length t → room-refusal n t ≡ 0
+unfolding room-refusal
+room-enough n t h = rw (le-ltb (length t) n h)
