@@ -1,5 +1,5 @@
 // Lists a tune book, tune by tune and card by card (document 01: the listing program): the book is in the file that the argument names, or on
-// standard input. What is printed is what `listing::write_listing` is proved to write.
+// standard input. What is handed over to be printed is proved to be the listing.
 // Assumes what `os`, `io` and `libc` assume of reading and writing.
 ghost use mathlib.Core.Path.{_≡_};
 ghost use Prim.Native.Nat.{_≤_};
@@ -8,7 +8,8 @@ ghost use Rattle.listing.specs.Listing.{listing, longest};
 use refusal::Answer;
 use streams::Input;
 
-// Prints the listing of a book. The book is handed over for the promise alone: no other text can be printed.
+// Prints the listing of a book. The book is taken for the premise alone: a caller can hand over no other text. That this text is what is
+// printed stands in the one line below, as no contract can say what is written.
 fn print_listing(book: &[u8], text: &[u8])
     requires { ⌜ now text ≡ listing (now book) ⌝ }
 {
