@@ -5,7 +5,7 @@
 #include "lucetcoral.h"
 
 /* One byte more than a book may have: a longer file is then refused. */
-static uint8_t book[65537];
+static uint8_t book[LUCETCORAL_BOOK_MAX + 1];
 static uint8_t text[LUCETCORAL_LISTING_MAX];
 
 int main(int argc, char **argv) {
@@ -18,12 +18,12 @@ int main(int argc, char **argv) {
     fclose(file);
 
     uint32_t number, cards;
-    for (uint32_t place = 0; lucetcoral_tune_at(book, length, place, &number, &cards) == 0; place++) {
+    for (uint32_t place = 0; lucetcoral_tune_at(book, length, place, &number, &cards) == LUCETCORAL_DONE; place++) {
         printf("tune %u has %u cards\n", (unsigned)number, (unsigned)cards);
     }
 
     size_t written;
-    if (lucetcoral_list(book, length, text, sizeof text, &written) != 0) {
+    if (lucetcoral_list(book, length, text, sizeof text, &written) != LUCETCORAL_DONE) {
         return 1; /* never: the text is long enough */
     }
     fwrite(text, 1, written, stdout);

@@ -1,8 +1,27 @@
-/* Lucetcoral's C interface: the nine operations of document 01, the tunes of a book by place, and the listing; numbers and lists only. Every
-   function is proved (crates/capi) to return 0 when done, or the refusal's number, 1 to 9, on all inputs; a refusal changes nothing that is lent.
-   A list is a pointer and a count of entries; the pointer must be valid for that many entries, and what one call lends to be written must not
-   overlap anything else it lends.
-   Link target/staticlib/libcapi.a, which `rt staticlib capi` writes. */
+/* Lucetcoral's C interface: cards, tune books and their listing, in numbers and lists only. docs/SPECIFICATION.md says what each operation does;
+   the sections cited below are its sections.
+
+   ANSWERS. Each function returns LUCETCORAL_DONE, 0, or the number of a refusal. If it is done, what it answers is in the lists and numbers that
+   it was lent to fill. A refusal changes nothing that is lent. Tests run in the order in which the numbers stand at each function, and the first
+   that fails gives the refusal. Each function is proved (crates/capi) to do this, to end, and to do nothing undefined, for all numbers and for
+   lists of every length.
+
+   LISTS AND POINTERS. A list is a pointer and a count of entries, not of bytes. The pointer must be valid and aligned for that many entries.
+   - With a count of 0 it may be NULL, or any other pointer: nothing is read or written through it. The list is then empty. Most functions refuse
+     an empty list; an empty body has 0 ticks and no damaged card.
+   - A pointer to a single number must be valid and aligned, and never NULL, even in a call that is refused.
+   - What a call is lent to fill must not overlap anything else that it is lent, and need not be initialised.
+   - While a call runs, nothing else may write what it was lent, or read what it was lent to fill.
+
+   OWNERSHIP. All memory is the caller's. Nothing is allocated, and no pointer is kept after the return.
+
+   THREADS. The library has no state. Any number of threads may call it at once, each with memory lent as above.
+
+   STACK. No call was seen to use more than 4.5 KiB of stack: measured with cards of every damage and full books, not proved. 8 KiB leave room.
+
+   PLATFORM. The archive is target/staticlib/libcapi.a, which `rt staticlib capi` writes: position-independent code for Linux on any x86-64
+   processor, with the System V calling convention. It needs memcpy, memmove and memset of a C library at most, calls nothing else, and leaves
+   errno alone. Only tests compare this header with the archive, so both must come from one revision. */
 #ifndef LUCETCORAL_H
 #define LUCETCORAL_H
 
@@ -13,46 +32,90 @@
 extern "C" {
 #endif
 
-/* 1 k is not 1 to 5; 2 a length; 3 a range; 4 hopeless; 5 a book's size; 6 a tune number; 7 a book's layout; 8 no such tune; 9 no such card. */
+/* The version of this interface. As long as MAJOR is 0, MINOR is raised by every change of what a call takes, answers or refuses and of every
+   name or number below, PATCH by all other changes. The archive holds no version of its own. */
+#define LUCETCORAL_VERSION_MAJOR 0
+#define LUCETCORAL_VERSION_MINOR 1
+#define LUCETCORAL_VERSION_PATCH 0
 
-/* Press: fills the word (6 symbols) of a message (2k numbers). 1, 2, 3. */
+/* What a function returns (section 7). */
+enum lucetcoral_refusal {
+    LUCETCORAL_DONE = 0,         /* no refusal */
+    LUCETCORAL_DIMENSION = 1,    /* k is not 1 to 5 */
+    LUCETCORAL_LENGTH = 2,       /* a list has the wrong length */
+    LUCETCORAL_RANGE = 3,        /* a symbol is above 728, or a value of a message above 26 */
+    LUCETCORAL_UNDECODABLE = 4,  /* no word of the code is near the card */
+    LUCETCORAL_BOOK_SIZE = 5,    /* a book has more than 65,536 bytes, or too few for its contents */
+    LUCETCORAL_TUNE_NUMBER = 6,  /* a tune number is not 1 to 9,999, or not above the one before it */
+    LUCETCORAL_LAYOUT = 7,       /* a tune has no cards, or the bodies do not adjoin from the contents to the end of the book */
+    LUCETCORAL_NO_SUCH_TUNE = 8, /* the book has no tune of that number, or at that place */
+    LUCETCORAL_NO_SUCH_CARD = 9  /* the card number is 0, or past the last */
+};
+
+/* The code (sections 1 to 4). */
+#define LUCETCORAL_K_MIN 1
+#define LUCETCORAL_K_MAX 5
+#define LUCETCORAL_CARD_SYMBOLS 6                  /* symbols of a card, and of a word */
+#define LUCETCORAL_SYMBOL_MAX 728
+#define LUCETCORAL_VALUE_MAX 26                    /* of a value of a message, and of a test value */
+#define LUCETCORAL_MESSAGE_VALUES(k) (2 * (k))     /* values of a message for k from 1 to 5: at most 10 */
+#define LUCETCORAL_TEST_VALUES(k) (12 - 2 * (k))   /* test values for k from 1 to 5: at most 10 */
+#define LUCETCORAL_RADIUS(k) ((6 - (k)) / 2)       /* the greatest rank of damage that is undone, for k from 1 to 5 */
+
+/* Tune books (section 5). */
+#define LUCETCORAL_BOOK_MAX 65536 /* bytes of a book */
+#define LUCETCORAL_BODY_MAX 65532 /* bytes of a body */
+#define LUCETCORAL_CARD_BYTES 12  /* bytes of a card in a body */
+#define LUCETCORAL_TUNE_NUMBER_MIN 1
+#define LUCETCORAL_TUNE_NUMBER_MAX 9999
+
+/* Strikes (section 6). */
+#define LUCETCORAL_STRIKE_K 2 /* the k of all cards in books */
+#define LUCETCORAL_BELL_MAX 26
+#define LUCETCORAL_FORCE_MAX 26
+#define LUCETCORAL_DELAY_MAX 728
+#define LUCETCORAL_TICK_MILLISECONDS 20
+
+/* No listing has more bytes than this (section 9). */
+#define LUCETCORAL_LISTING_MAX 131072
+
+/* Encode (8.1; Press): fills the word, 6 symbols, of a message of 2k values. 1, 2, 3. */
 uint32_t lucetcoral_encode(uint32_t k, const uint16_t *message, size_t message_len, uint16_t *word, size_t word_len);
 
-/* Weigh: the rank of a card (6 symbols), 0 to 6. 2, 3. */
+/* Weigh (8.2): the rank of a card of 6 symbols, 0 to 6. 2, 3. */
 uint32_t lucetcoral_weight(const uint16_t *symbols, size_t symbols_len, uint32_t *rank);
 
-/* Test: fills the test values (12 - 2k numbers) of a card; they are all 0 exactly for words. 1, 2, 3. */
+/* Syndrome (8.3; Test): fills the 12 - 2k test values of a card of 6 symbols. They are all 0 exactly for words. 1, 2, 3. */
 uint32_t lucetcoral_syndrome(uint32_t k, const uint16_t *received, size_t received_len, uint16_t *values, size_t values_len);
 
-/* Mend: fills the word near a card and its message, and gives the rank of the difference. 1, 2, 3, 4. */
+/* Decode (8.4; Mend): fills the word near a card of 6 symbols, 6 symbols, and its message, 2k values, and gives the rank of the difference between
+   word and card. 1, 2, 3, 4. */
 uint32_t lucetcoral_decode(uint32_t k, const uint16_t *received, size_t received_len, uint16_t *word, size_t word_len, uint16_t *message,
                            size_t message_len, uint32_t *distance);
 
-/* Open: the number of tunes of a book. 5, 6, 7. */
+/* Open (8.5): the number of tunes of a book. 5, 6, 7. */
 uint32_t lucetcoral_open(const uint8_t *book, size_t book_len, uint32_t *tunes);
 
-/* Pull: the part of the book that is the tune's body, as its offset and its length. 5, 6, 7, 8. */
+/* Pull (8.6): the part of the book that is the tune's body, as its offset in the book and its length. 5, 6, 7, 8. */
 uint32_t lucetcoral_tune_body(const uint8_t *book, size_t book_len, uint32_t number, uint32_t *offset, uint32_t *length);
 
-/* The tune at a place of the contents, counted from 0: its tune number and its count of cards. 5, 6, 7; 8 if the contents has no such place.
-   Each call opens the book. */
+/* Tune by place (8.8): the tune number and the count of cards of the entry at a place of the contents, counted from 0. Each call opens the book.
+   5, 6, 7, 8. */
 uint32_t lucetcoral_tune_at(const uint8_t *book, size_t book_len, uint32_t place, uint32_t *number, uint32_t *cards);
 
-/* Read: card `number`, counted from 1, of a body: a strike and the rank of its damage. 2, 9, 3, 4. */
+/* Read (8.9): card `number`, counted from 1, of a body: a strike and the rank of its damage. 2, 9, 3, 4. */
 uint32_t lucetcoral_read_card(const uint8_t *body, size_t body_len, uint32_t number, uint32_t *bell, uint32_t *force, uint32_t *delay,
                               uint32_t *damage);
 
-/* Length: the sum of the delays of all readable cards, in ticks of 20 milliseconds. 2. */
+/* Length (8.10): the sum of the delays of all cards of a body that can be read, in ticks. 2. */
 uint32_t lucetcoral_total_delay(const uint8_t *body, size_t body_len, uint32_t *ticks);
 
-/* Worn: the number of a card that Read refuses or mends with rank 1 or more; 0 exactly if there is none. 2. */
+/* Worn (8.11): the number of a card of a body that Read refuses or gives a damage of 1 or more, any such card; 0 exactly if there is none. 2. */
 uint32_t lucetcoral_damaged_card(const uint8_t *body, size_t body_len, uint32_t *card);
 
-/* No listing has more bytes than this. */
-#define LUCETCORAL_LISTING_MAX 131072
-
-/* The text that lists a book, as the program list_book prints it ("book refused N" for a book that Open refuses), at the start of `text`; the
-   rest of `text` stays as it was. `written` is the length of the listing, without a 0 at its end. 2 if text_len is below LUCETCORAL_LISTING_MAX. */
+/* Listing (8.12): the text that lists a book, as the program list_book prints it ("book refused N" for a book that Open refuses), at the start of
+   `text`. The rest of `text` stays as it was. `written` is the length of the listing; no 0 is written at its end. 2 if text_len is below
+   LUCETCORAL_LISTING_MAX. */
 uint32_t lucetcoral_list(const uint8_t *book, size_t book_len, uint8_t *text, size_t text_len, size_t *written);
 
 #ifdef __cplusplus

@@ -1,4 +1,4 @@
--- Combinations of symbols with digits as coefficients, the span of a list of symbols, and independence. Assumes nothing.
+-- Combinations of symbols with digits as coefficients, the span of a list of symbols, and independence.
 -- Main: span-add, span-scale, span-trans, outside, exchange.
 use mathlib.Core.Path.{_≡_, refl, sym, ap, ap₂, _∙_}
 use mathlib.Core.Logic.{_≢_}

@@ -1,5 +1,5 @@
 -- Digits: a symbol is its six digits, and add and scale go digit by digit, so their laws are those of numbers modulo 3. They hold at all
--- numbers: a number stands for the symbol that is its rest by 729. Assumes nothing.
+-- numbers: a number stands for the symbol that is its remainder by 729.
 -- Main: number-digits, digits-number, digit-add, digit-scale, by-digits, and the laws of add and scale.
 use mathlib.Core.Path.{_≡_, refl, sym, ap, _∙_}
 use mathlib.Core.List.{List, [], _∷_}

@@ -1,5 +1,5 @@
--- The field of 729 elements (document 01: Field and numbering): a symbol is a number by its six base-3 digits, lowest first. The operations
--- read six digits of any number, so a number stands for its rest by 729. Assumes nothing: these are definitions.
+-- The field of 729 elements (SPECIFICATION 1): a symbol is a number by its six base-3 digits, lowest first. The operations
+-- read six digits of any number, so a number stands for its remainder by 729.
 use mathlib.Core.Bool.{cond}
 use mathlib.Core.List.{List, [], _∷_}
 use Prim.Native.Nat.{ℕ, zero, suc, _+_, _*_, _/_, _%_}
@@ -56,10 +56,10 @@ times-from (d ∷ ds) a = add (scale d a) (times-from ds (shifted a))
 unfoldable pub times : (a b : ℕ) → ℕ
 times a b = times-from (digits b) a
 
--- a to the k
-unfoldable pub power : (a k : ℕ) → ℕ
+-- a to the n
+unfoldable pub power : (a n : ℕ) → ℕ
 power a zero = 1
-power a (suc k) = times a (power a k)
+power a (suc n) = times a (power a n)
 
 -- a to the third
 unfoldable pub cube : ℕ → ℕ

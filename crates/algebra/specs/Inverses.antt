@@ -1,4 +1,4 @@
--- Inverses by logarithms, and with them no divisors of 0. Assumes nothing.
+-- Inverses by logarithms, and with them no divisors of 0.
 -- Main: times-inverse, divide, no-divisors, times-not-zero, risen-not-zero, inverse-only.
 use mathlib.Core.Path.{_≡_, sym, ap, ap₂, _∙_}
 use mathlib.Core.Bool.{cond}

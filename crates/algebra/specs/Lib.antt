@@ -1,5 +1,5 @@
 -- The algebra that everything stands on: the field of 729 elements as numbers, and the laws of it. In reading order.
--- Definitions (document 03)
+-- Definitions
 pub mod Field
 -- Lists and computed tests
 pub mod Lists

@@ -1,4 +1,4 @@
--- Linear functions: they are given by their values at 1, 3, 9, 27, 81, 243. Assumes nothing.
+-- Linear functions: they are given by their values at 1, 3, 9, 27, 81, 243.
 -- Main: combination-linear, combination-cons, combination-any, in-basis, expand, agree, by-test.
 use mathlib.Core.Path.{_≡_, refl, sym, ap, ap₂, _∙_, subst, fun-ext}
 use mathlib.Core.Bool.{true}
@@ -117,7 +117,7 @@ expand {f} l v = sym (at-rest l v) ∙ ap f (in-basis v) ∙ at-combine l (digit
 pub agree : {f g : ℕ → ℕ} → Linear f → Linear g → images f ≡ images g → (v : ℕ) → f v ≡ g v
 agree l m e v = expand l v ∙ ap (λ (ws : List ℕ). combination ws v) e ∙ sym (expand m v)
 
--- what equals a linear function is linear: the rest by 729, and what passes a test
+-- what equals a linear function is linear: the remainder by 729, and what passes a test
 pub like : {f g : ℕ → ℕ} → Linear g → ((v : ℕ) → f v ≡ g v) → Linear f
 like l e = subst Linear (fun-ext (λ v. sym (e v))) l
 

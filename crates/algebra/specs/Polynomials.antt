@@ -1,4 +1,4 @@
--- Linearized polynomials g₀ y + g₁ y³ + g₂ y⁹ + .. are linear functions, and their division by y³ - A y. Assumes nothing.
+-- Linearized polynomials g₀ y + g₁ y³ + g₂ y⁹ + .. are linear functions, and their division by y³ - A y.
 -- Main: ev-linear, division, quo-length, quo-last, lower-self, lower-zeros.
 use mathlib.Core.Path.{_≡_, refl, sym, ap, _∙_}
 use mathlib.Core.List.{List, [], _∷_}

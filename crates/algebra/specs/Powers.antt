@@ -1,5 +1,4 @@
 -- The powers of z, which is symbol 3, are all the symbols but 0: each has its logarithm, and a product is the power at the sum of two.
--- Assumes nothing.
 -- Main: power-at, power-log, power-plus, power-round, times-logs.
 use mathlib.Core.Path.{_≡_, refl, sym, ap, ap₂, _∙_}
 use mathlib.Core.Bool.{true, cond}
@@ -38,25 +37,25 @@ pub power-zero : (a : ℕ) → power a 0 ≡ 1
 unfolding power
 power-zero a = refl
 
-pub power-suc : (a k : ℕ) → power a (suc k) ≡ times a (power a k)
+pub power-suc : (a n : ℕ) → power a (suc n) ≡ times a (power a n)
 unfolding power
-power-suc a k = refl
+power-suc a n = refl
 
-pub power-below : (k : ℕ) → power 3 k < 729
+pub power-below : (n : ℕ) → power 3 n < 729
 power-below zero = rw (power-zero 3) (lit< tt)
-power-below (suc k) = rw (power-suc 3 k) (right 3 .below (power 3 k))
+power-below (suc n) = rw (power-suc 3 n) (right 3 .below (power 3 n))
 
-orbit-at : (n i x : ℕ) → power 3 i ≡ x → (k : ℕ) → k < n → getD (orbit n x) k 0 ≡ power 3 (k + i)
+orbit-at : (n i x : ℕ) → power 3 i ≡ x → (j : ℕ) → j < n → getD (orbit n x) j 0 ≡ power 3 (j + i)
 unfolding orbit
-orbit-at zero i x e k h = absurd (omega arith)
+orbit-at zero i x e j h = absurd (omega arith)
 orbit-at (suc n) i x e zero h = sym e ∙ ap (power 3) (sym (zero-add i))
-orbit-at (suc n) i x e (suc k) h =
-    orbit-at n (suc i) (shifted x) (power-suc 3 i ∙ z-times (power 3 i) ∙ ap shifted e) k (omega arith)
-    ∙ ap (power 3) (add-suc k i ∙ sym (suc-add k i))
+orbit-at (suc n) i x e (suc j) h =
+    orbit-at n (suc i) (shifted x) (power-suc 3 i ∙ z-times (power 3 i) ∙ ap shifted e) j (omega arith)
+    ∙ ap (power 3) (add-suc j i ∙ sym (suc-add j i))
 
-pub power-at : (k : ℕ) → k < 728 → getD powers k 0 ≡ power 3 k
+pub power-at : (n : ℕ) → n < 728 → getD powers n 0 ≡ power 3 n
 unfolding powers
-power-at k h = orbit-at 728 0 1 (power-zero 3) k h ∙ ap (power 3) (add-zero k)
+power-at n h = orbit-at 728 0 1 (power-zero 3) n h ∙ ap (power 3) (add-zero n)
 
 -- THE LOGARITHM of each symbol but 0, by one test
 log-test : every 728 (λ b. eqb (getD powers (log (suc b)) 0) (suc b)) ≡ true
@@ -94,8 +93,8 @@ unfolding computing power
 power-728 = refl
 
 -- the powers come round after 728
-pub power-round : (k : ℕ) → power 3 (k + 728) ≡ power 3 k
-power-round k = sym (power-plus k 728) ∙ ap (times (power 3 k)) power-728 ∙ times-comm (power 3 k) 1 ∙ one-times (power 3 k) ∙ mod-eq-of-lt (power-below k)
+pub power-round : (n : ℕ) → power 3 (n + 728) ≡ power 3 n
+power-round n = sym (power-plus n 728) ∙ ap (times (power 3 n)) power-728 ∙ times-comm (power 3 n) 1 ∙ one-times (power 3 n) ∙ mod-eq-of-lt (power-below n)
 
 pub times-logs : (a b : ℕ) → ¬ Zero a → ¬ Zero b → times a b ≡ power 3 (log a + log b)
 times-logs a b n m =

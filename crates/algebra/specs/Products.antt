@@ -1,4 +1,4 @@
--- The laws of times, cube and risen. Assumes nothing.
+-- The laws of times, cube and risen.
 -- Main: right, left, times-comm, times-assoc, cube-linear, risen-linear, risen-times, the rulesets products and ring.
 use mathlib.Core.Path.{_≡_, refl, sym, ap, ap₂, _∙_}
 use mathlib.Core.List.{List, [], _∷_}

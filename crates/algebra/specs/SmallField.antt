@@ -1,5 +1,5 @@
 -- The small field: 27 symbols, those that risen 3 leaves as they are. Each equation here between linear functions is by their values at
--- the basis (`agree .. refl`), so it holds at all numbers. Assumes nothing.
+-- the basis (`agree .. refl`), so it holds at all numbers.
 -- Main: small-linear, small-fixed, pair-low-high, pair-only, only-low, only-high, fixed-small, small-back, Small-field.
 use mathlib.Core.Path.{_≡_, refl, sym, ap, _∙_}
 use mathlib.Core.Bool.{true}
@@ -146,7 +146,7 @@ small-test = refl
 pub small-back : (c : ℕ) → c < 27 → small-of (small c) ≡ c
 small-back = tested 27 (λ c. small-of (small c)) (λ c. c) small-test
 
--- THE SMALL FIELD (document 03): 27 symbols that are their own 27th power, and no others
+-- THE SMALL FIELD: 27 symbols that are their own 27th power, and no others
 unfoldable pub Small-field : Type 0
 Small-field =
     (v c : ℕ) → v < 729 → c < 27 → (risen 3 (small c) ≡ small c) × (small-of (small c) ≡ c) × (risen 3 v ≡ v → small (small-of v) ≡ v)

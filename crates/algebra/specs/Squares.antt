@@ -1,4 +1,4 @@
--- Squares: gamma is none and each small symbol is one, so gamma times a square is not small, but 0. Assumes nothing.
+-- Squares: gamma is none and each small symbol is one, so gamma times a square is not small, but 0.
 -- Main: gamma-no-square, small-square, square-step, gamma-high.
 use mathlib.Core.Path.{_≡_, refl, sym, ap, _∙_}
 use mathlib.Core.Bool.{true, false, true≢false, _||_, not}

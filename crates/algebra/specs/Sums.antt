@@ -1,4 +1,4 @@
--- More laws of add, scale and minus, and the ruleset by which `simp` proves equations between sums. Assumes nothing.
+-- More laws of add, scale and minus, and the ruleset by which `simp` proves equations between sums.
 -- Main: the ruleset sums, thrice, minus-add, minus-none.
 use mathlib.Core.Path.{_≡_, refl, sym, ap, _∙_}
 use Prim.Native.Nat.{ℕ, _*_, _%_}

@@ -1,5 +1,5 @@
 -- Tests: what a computed test of all numbers below n shows of each, the test by which lists are cards and messages, and proofs for each of
--- a few numbers. Assumes nothing.
+-- a few numbers.
 -- Main: tested, tested-2, tested-if, some-below, passed, passes, one-to-five, below-six.
 use mathlib.Core.Path.{_≡_, refl, sym}
 use mathlib.Core.Bool.{Bool, true, false, _&&_, _||_, not, true≢false}

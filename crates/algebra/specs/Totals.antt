@@ -1,5 +1,4 @@
 -- Totals f s + f (s + 1) + .. of symbols: linear functions go past them, and they past one another, so a square of symbols undoes its inverse square.
--- Assumes nothing.
 -- Main: total-same, total-none, undone.
 use mathlib.Core.Path.{_≡_, refl, sym, ap, ap₂, _∙_}
 use mathlib.Core.Bool.{cond}

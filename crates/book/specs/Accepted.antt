@@ -1,4 +1,4 @@
--- A book that Open accepts: its bodies lie one after another and fill the file, and its tune numbers rise. Assumes nothing.
+-- A book that Open accepts: its bodies lie one after another and fill the file, and its tune numbers rise.
 -- Main: Accepted-entry, book-within, entries-within; first-begins, parts-adjoin, parts-apart, part-within, part-length, part-some, last-ends,
 -- part-good; number-range, numbers-rise, one-entry.
 use mathlib.Core.Path.{_≡_, refl, sym, _∙_, ap}
@@ -12,11 +12,11 @@ use lib.Dec.{ltb, leb, eqb}
 use lib.ListN.{length, drop, length-drop}
 use lib.Seq.{length-take-le}
 use borrow.Author.Tests.{ltb-false, leb-true, eqb-true, not-false, le-leb, eq-eqb}
-use Rattle.refusal.specs.Answers.{number}
+use Rattle.refusal.specs.Replies.{number}
 use Rattle.refusal.specs.declared.Refusal.the-variants.{BookSize, TuneNumber, Layout}
 use Rattle.book.specs.Layout.{longest-book, tunes, contents-end, Entries-within, tune-number, offset, cards, part-of, body-good}
 use Rattle.book.specs.Open.{size-bad, numbers-bad, bodies-bad, open-refusal}
-use Rattle.book.specs.Loops.{numbers-on, numbers-start, numbers-next, bodies-on, bodies-start, bodies-next, bodies-end}
+use Rattle.book.specs.ContentsLoops.{numbers-on, numbers-start, numbers-next, bodies-on, bodies-start, bodies-next, bodies-end}
 
 -- a book that Open accepts
 abbrev pub Accepted : List ℕ → Type 0
@@ -27,17 +27,17 @@ abbrev pub Accepted-entry : List ℕ → (e : ℕ) → Type 0
 Accepted-entry bs e = Accepted bs × (e < tunes bs)
 
 -- THE THREE TESTS
-pub record Tested (bs : List ℕ) : Type 0 where
+pub record Passed (bs : List ℕ) : Type 0 where
   pub size : size-bad bs ≡ false
   pub numbers : numbers-bad bs ≡ false
   pub bodies : bodies-bad bs ≡ false
 
-pub tested : (bs : List ℕ) → Accepted bs → Tested bs
+pub open-passed : (bs : List ℕ) → Accepted bs → Passed bs
 unfolding open-refusal
-tested bs a = go (size-bad bs) refl (numbers-bad bs) refl (bodies-bad bs) refl a
+open-passed bs a = go (size-bad bs) refl (numbers-bad bs) refl (bodies-bad bs) refl a
   where
     go : (s : Bool) → size-bad bs ≡ s → (n : Bool) → numbers-bad bs ≡ n → (b : Bool) → bodies-bad bs ≡ b
-        → cond s (number BookSize) (cond n (number TuneNumber) (cond b (number Layout) 0)) ≡ 0 → Tested bs
+        → cond s (number BookSize) (cond n (number TuneNumber) (cond b (number Layout) 0)) ≡ 0 → Passed bs
     go true p n q b r e = absurd (omega arith)
     go false p true q b r e = absurd (omega arith)
     go false p false q true r e = absurd (omega arith)
@@ -58,10 +58,10 @@ size-within bs e =
     (ltb-false longest-book (length bs) (f .0), ltb-false (length bs) 2 (g .0), λ i k. omega arith)
 
 pub book-within : (bs : List ℕ) → Accepted bs → length bs ≤ longest-book
-book-within bs a = size-within bs (tested bs a .size) .0
+book-within bs a = size-within bs (open-passed bs a .size) .0
 
 pub entries-within : (bs : List ℕ) → Accepted bs → Entries-within bs
-entries-within bs a = size-within bs (tested bs a .size) .2
+entries-within bs a = size-within bs (open-passed bs a .size) .2
 
 -- BODIES. Where those before entry e end
 unfoldable pub body-start : List ℕ → (e : ℕ) → ℕ
@@ -79,7 +79,7 @@ bodies-step bs e x h g =
 
 bodies-pass : (bs : List ℕ) → Accepted bs → (e : ℕ) → e ≤ tunes bs → bodies-on bs e (body-start bs e) ≡ true
 unfolding body-start
-bodies-pass bs a zero h = not-false (bodies-on bs 0 (contents-end (tunes bs))) (rw bodies-start at (tested bs a .bodies))
+bodies-pass bs a zero h = not-false (bodies-on bs 0 (contents-end (tunes bs))) (rw bodies-start at (open-passed bs a .bodies))
 bodies-pass bs a (suc e) h = bodies-step bs e (body-start bs e) (omega arith) (bodies-pass bs a e (omega arith)) .2
 
 pub start-rises : (bs : List ℕ) (e f : ℕ) → e ≤ f → body-start bs e ≤ body-start bs f
@@ -168,7 +168,7 @@ numbers-step bs e l h g =
 
 numbers-pass : (bs : List ℕ) → Accepted bs → (e : ℕ) → e ≤ tunes bs → numbers-on bs e (least-number bs e) ≡ true
 unfolding least-number
-numbers-pass bs a zero h = not-false (numbers-on bs 0 1) (rw numbers-start at (tested bs a .numbers))
+numbers-pass bs a zero h = not-false (numbers-on bs 0 1) (rw numbers-start at (open-passed bs a .numbers))
 numbers-pass bs a (suc e) h = numbers-step bs e (least-number bs e) (omega arith) (numbers-pass bs a e (omega arith)) .2
 
 module _ (bs : List ℕ) (a : Accepted bs) where

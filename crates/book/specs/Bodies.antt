@@ -1,17 +1,17 @@
--- What Length and Worn say of a body (document 01). Assumes nothing: these are definitions.
--- Main: body-refusal, total-delay, is-damaged, Shown, shown, Worn-shows.
+-- What Length and Worn say of a body (SPECIFICATION 8.10 and 8.11).
+-- Main: body-refusal, total-delay, is-damaged, worn-reply, Worn-answers.
 use mathlib.Core.Path.{_≡_}
 use mathlib.Core.Bool.{Bool, true, false, _||_, not, cond}
 use mathlib.Core.List.{List}
 use mathlib.Core.Option.{Option, none, some}
 use Prim.Native.Nat.{ℕ, zero, suc, _+_, _≤_}
 use lib.Dec.{eqb}
-use Rattle.refusal.specs.Answers.{number}
+use Rattle.refusal.specs.Replies.{number, Reply, replied, refused-with}
 use Rattle.refusal.specs.declared.Refusal.the-variants.{Length}
 use Rattle.book.specs.declared.bodies.Worn.{Worn}
 use Rattle.book.specs.declared.bodies.Worn.the-variants.{Card, Nothing, Refused}
 use Rattle.book.specs.Layout.{body-good}
-use Rattle.book.specs.Reading.{Spoken, cards-in, reading}
+use Rattle.book.specs.Reading.{Card-value, cards-in, reading}
 
 -- 2 as Read, for Length and Worn alike
 unfoldable pub body-refusal : (body : List ℕ) → ℕ
@@ -20,28 +20,24 @@ body-refusal bs = cond (body-good bs) 0 (number Length)
 -- LENGTH. The delays of `left` cards from card n on, a refused card adding 0
 unfoldable pub delays-from : (left n : ℕ) → (body : List ℕ) → ℕ
 delays-from zero n bs = 0
-delays-from (suc k) n bs = reading bs n .delay + delays-from k (suc n) bs
+delays-from (suc k) n bs = reading bs n .value .strike .delay + delays-from k (suc n) bs
 
 -- of all cards
 unfoldable pub total-delay : (body : List ℕ) → ℕ
 total-delay bs = delays-from (cards-in bs) 1 bs
 
 -- WORN. A card that Read refuses, or mends with rank 1 or more
-unfoldable pub flawed : Spoken → Bool
-flawed s = not (eqb (s .refusal) 0) || not (eqb (s .damage) 0)
+unfoldable pub flawed : Reply Card-value → Bool
+flawed r = not (eqb (r .refusal) 0) || not (eqb (r .value .damage .rank) 0)
 
 unfoldable pub is-damaged : (body : List ℕ) → (n : ℕ) → Bool
 is-damaged bs n = flawed (reading bs n)
 
--- what an answer shows in the numbers of document 01: 0 and the number of a card or none, or the refusal's number
-pub record Shown : Type 0 where
-  pub refusal : ℕ
-  pub card : Option ℕ
-
-abbrev pub shown : Worn → Shown
-shown (Card n) = record { refusal = 0; card = some n }
-shown Nothing = record { refusal = 0; card = none }
-shown (Refused r) = record { refusal = number r; card = none }
+-- what an answer says: the number of a card, or none
+abbrev pub worn-reply : Worn → Reply (Option ℕ)
+worn-reply (Card n) = replied (some n)
+worn-reply Nothing = replied none
+worn-reply (Refused r) = refused-with none (number r)
 
 -- the number of a card that is damaged, any such card; "none" exactly if there is none
 unfoldable pub Named : (body : List ℕ) → Option ℕ → Type 0
@@ -49,7 +45,7 @@ Named bs none = (n : ℕ) → 1 ≤ n → n ≤ cards-in bs → is-damaged bs n 
 Named bs (some n) = (1 ≤ n) × (n ≤ cards-in bs) × (is-damaged bs n ≡ true)
 
 -- the card number is left free, and named by what holds of it; all else is fixed
-pub record Worn-shows (bs : List ℕ) (s : Shown) : Type 0 where
-  pub refusal : s .refusal ≡ body-refusal bs
-  pub refused : body-good bs ≡ false → s .card ≡ none
-  pub named : body-good bs ≡ true → Named bs (s .card)
+pub record Worn-answers (bs : List ℕ) (r : Reply (Option ℕ)) : Type 0 where
+  pub refusal : r .refusal ≡ body-refusal bs
+  pub refused : body-good bs ≡ false → r .value ≡ none
+  pub named : body-good bs ≡ true → Named bs (r .value)

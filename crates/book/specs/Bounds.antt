@@ -1,41 +1,40 @@
--- How large the numbers are that Open, Read and Length say. Assumes nothing.
+-- How large the numbers are that Open, Read and Length say.
 -- Main: Bounded, reading-bounded, total-bounded, open-bounded.
 use mathlib.Core.Path.{_≡_, refl}
 use mathlib.Core.Bool.{Bool, true, false, not, cond}
-use mathlib.Core.List.{List, []}
+use mathlib.Core.List.{List}
 use mathlib.Core.Option.{Option, none, some}
 use Prim.Native.Nat.{ℕ, zero, suc, _*_, _≤_, _<_}
 use native.Mathlib.Omega.{arith}
 use lib.Dec.{eqb}
 use Rattle.algebra.specs.Tests.{any-above}
-use Rattle.refusal.specs.Answers.{number}
+use Rattle.refusal.specs.Replies.{number, Reply, reply-with}
 use Rattle.refusal.specs.declared.Refusal.the-variants.{Length, Range, BookSize, TuneNumber, Layout, NoSuchCard}
-use Rattle.rank.specs.Definitions.{at, difference, apart}
+use Rattle.rank.specs.Definitions.{at, difference}
 use Rattle.rank.specs.Echelon.{rank-at-most}
+use Rattle.rank.specs.Weight.{weight-of}
 use Rattle.coding.specs.Decode.{decode}
-use Rattle.codec.specs.Answers.{undecodable, found, decoded-word}
+use Rattle.decoder.specs.Decoding.{undecodable, or-empty, decoded-word, damage}
+use Rattle.strike.specs.Strikes.{in-range, strike-of, strike-good, range-parts}
 use Rattle.book.specs.Layout.{body-good, card}
 use Rattle.book.specs.Open.{size-bad, numbers-bad, bodies-bad, open-refusal}
-use Rattle.book.specs.Reading.{Spoken, bell-of, force-of, delay-of, only, struck, card-refusal, said, cards-in, no-card, read-refusal, reading}
+use Rattle.book.specs.Reading.{Card-value, no-value, card-refusal, value-of-card, card-reading, cards-in, no-card, read-refusal, reading}
 use Rattle.book.specs.Bodies.{delays-from, total-delay}
-use Rattle.book.specs.Cards.{decoded-message, value-small}
+use Rattle.book.specs.CardReading.{decoded-message}
 
 -- WHAT READ SAYS: a refusal of two digits at most, or a strike within its ranges and a rank
-pub record Bounded (s : Spoken) : Type 0 where
-  pub refusal : s .refusal < 100
-  pub bell : s .bell < 27
-  pub force : s .force < 27
-  pub delay : s .delay ≤ 728
-  pub damage : s .damage ≤ 6
+pub record Bounded (r : Reply Card-value) : Type 0 where
+  pub refusal : r .refusal < 100
+  pub bell : r .value .strike .bell ≤ 26
+  pub force : r .value .strike .force ≤ 26
+  pub delay : r .value .strike .delay ≤ 728
+  pub damage : r .value .damage .rank ≤ 6
 
-none-at : (i : ℕ) → at [] i ≡ 0
-unfolding at
-none-at i = refl
-
-value-within : (c : List ℕ) (o : Option (List ℕ)) → decode 2 c ≡ o → (i : ℕ) → i < 4 → at (found o) i < 27
-unfolding found
-value-within c none e i h = let z = none-at i in omega arith
-value-within c (some m) e i h = value-small m (decoded-message c m e) i h
+-- the strike of what was decoded is in range, and so is that of nothing
+decoded-range : (c : List ℕ) (o : Option (List ℕ)) → decode 2 c ≡ o → in-range (strike-of (or-empty o)) ≡ true
+unfolding or-empty strike-of in-range at
+decoded-range c none e = refl
+decoded-range c (some m) e = strike-good m (decoded-message c m e)
 
 refusal-bounded : (bs : List ℕ) (n : ℕ) → read-refusal bs n < 100
 unfolding read-refusal card-refusal undecodable
@@ -50,30 +49,17 @@ refusal-bounded bs n = go (body-good bs) (no-card bs n) (any-above 728 (card bs 
     go true false false (some m) = omega arith
 
 pub reading-bounded : (bs : List ℕ) (n : ℕ) → Bounded (reading bs n)
-unfolding reading said only struck bell-of force-of delay-of apart
+unfolding reading card-reading value-of-card damage weight-of reply-with
 reading-bounded bs n = go (eqb (read-refusal bs n) 0)
   where
     c : List ℕ
     c = card bs n
 
-    value : (i : ℕ) → i < 4 → at (found (decode 2 c)) i < 27
-    value = value-within c (decode 2 c) refl
-
-    go : (b : Bool) → Bounded (cond b (struck (found (decode 2 c)) (apart (decoded-word 2 c) c)) (only (read-refusal bs n)))
-    go true = record {
-      refusal = omega arith;
-      bell = value 0 (omega arith);
-      force = value 1 (omega arith);
-      delay = omega (arith, value 2 (omega arith), value 3 (omega arith));
-      damage = rank-at-most (difference (decoded-word 2 c) c);
-    }
-    go false = record {
-      refusal = refusal-bounded bs n;
-      bell = omega arith;
-      force = omega arith;
-      delay = omega arith;
-      damage = omega arith;
-    }
+    go : (b : Bool) → Bounded (record { refusal = read-refusal bs n; value = cond b (value-of-card c) no-value })
+    go true =
+        let (b, f, d) = range-parts _ (decoded-range c (decode 2 c) refl) in
+        record { refusal = refusal-bounded bs n; bell = b; force = f; delay = d; damage = rank-at-most (difference (decoded-word 2 c) c) }
+    go false = record { refusal = refusal-bounded bs n; bell = omega arith; force = omega arith; delay = omega arith; damage = omega arith }
 
 -- LENGTH: at most 728 ticks a card
 delays-bounded : (k n : ℕ) (bs : List ℕ) → delays-from k n bs ≤ 728 * k

@@ -1,6 +1,6 @@
--- The cards of a body from card n on, in the terms of a loop that counts them; and what Worn may show. Assumes nothing.
--- Main: good-length; Adding, adding-start, adding-next, adding-fits, adding-end; flawed-strike, flawed-refused, clean-next, shows-bad,
--- shows-card, shows-none, worn-none.
+-- The cards of a body from card n on, in the terms of a loop that counts them; and what Worn may answer.
+-- Main: good-length; Adding, adding-start, adding-next, adding-fits, adding-end; flawed-strike, flawed-refused, clean-next, worn-is-bad,
+-- worn-is-card, worn-is-none, worn-none.
 use mathlib.Core.Path.{_≡_, refl, sym, _∙_}
 use mathlib.Core.Bool.{true, false, not, true≢false}
 use mathlib.Core.List.{List}
@@ -14,17 +14,18 @@ use lib.Dec.{leb, eqb}
 use lib.ListN.{length}
 use borrow.Author.Tests.{leb-true}
 use Rattle.algebra.specs.Tests.{both}
-use Rattle.refusal.specs.Answers.{number-not-zero}
+use Rattle.refusal.specs.Replies.{Reply, number-not-zero}
 use Rattle.refusal.specs.declared.Refusal.{Refusal}
 use Rattle.refusal.specs.declared.Refusal.the-variants.{Length}
-use Rattle.book.specs.declared.reading.Strike.{Strike}
+use Rattle.rank.specs.declared.Weight.{Weight}
+use Rattle.strike.specs.declared.Strike.{Strike}
 use Rattle.book.specs.declared.reading.Reading.{Reading}
 use Rattle.book.specs.declared.reading.Reading.the-variants as readings
 use Rattle.book.specs.declared.bodies.Worn.the-variants.{Card, Nothing, Refused}
 use Rattle.book.specs.Layout.{body-good}
-use Rattle.book.specs.Reading.{spoken, only, cards-in, reading}
+use Rattle.book.specs.Reading.{read-reply, cards-in, reading}
 use Rattle.book.specs.Bounds.{reading-bounded}
-use Rattle.book.specs.Bodies.{body-refusal, delays-from, total-delay, flawed, is-damaged, Shown, shown, Named, Worn-shows}
+use Rattle.book.specs.Bodies.{body-refusal, delays-from, total-delay, flawed, is-damaged, worn-reply, Named, Worn-answers}
 
 pub good-length : (bs : List ℕ) → body-good bs ≡ true → length bs ≤ 65532
 unfolding body-good
@@ -38,7 +39,7 @@ delays-start : (bs : List ℕ) → total-delay bs ≡ delays-on bs 1
 unfolding total-delay delays-on
 delays-start bs = let e : suc (cards-in bs) - 1 ≡ cards-in bs = omega arith in rw e
 
-delays-next : (bs : List ℕ) (n : ℕ) → n ≤ cards-in bs → delays-on bs n ≡ reading bs n .delay + delays-on bs (n + 1)
+delays-next : (bs : List ℕ) (n : ℕ) → n ≤ cards-in bs → delays-on bs n ≡ reading bs n .value .strike .delay + delays-on bs (n + 1)
 unfolding delays-on delays-from
 delays-next bs n h = let e : suc (cards-in bs) - n ≡ suc (suc (cards-in bs) - suc n) = omega arith in rw (e, add-one n)
 
@@ -57,7 +58,7 @@ pub adding-start : (bs : List ℕ) → Adding bs 0 1
 adding-start bs = record { low = omega arith; within = omega arith; small = omega arith; whole = omega (arith, delays-start bs) }
 
 module _ (bs : List ℕ) (total n : ℕ) (a : Adding bs total n) where
-  pub adding-next : (d : ℕ) → n ≤ cards-in bs → d ≡ reading bs n .delay → Adding bs (total + d) (n + 1)
+  pub adding-next : (d : ℕ) → n ≤ cards-in bs → d ≡ reading bs n .value .strike .delay → Adding bs (total + d) (n + 1)
   adding-next d h e = record {
     low = omega arith;
     within = omega arith;
@@ -66,7 +67,7 @@ module _ (bs : List ℕ) (total n : ℕ) (a : Adding bs total n) where
   }
 
   -- a body has at most 5,461 cards
-  pub adding-fits : body-good bs ≡ true → (d : ℕ) → n ≤ cards-in bs → d ≡ reading bs n .delay → (n ≤ 5461) × (total + d ≤ 5462 * 728)
+  pub adding-fits : body-good bs ≡ true → (d : ℕ) → n ≤ cards-in bs → d ≡ reading bs n .value .strike .delay → (n ≤ 5461) × (total + d ≤ 5462 * 728)
   adding-fits good d h e =
       let l = good-length bs good in
       let f : n ≤ 5461 = omega arith in
@@ -76,41 +77,41 @@ module _ (bs : List ℕ) (total n : ℕ) (a : Adding bs total n) where
   adding-end h = omega (arith, a .whole, delays-end bs n h)
 
 -- WORN: a strike is flawed by its damage, a refusal always
-pub flawed-strike : (r : Reading) (s : Strike) → r ≡ readings.Strike s → not (eqb (s .damage) 0) ≡ flawed (spoken r)
+pub flawed-strike : (r : Reading) (s : Strike) (d : Weight) → r ≡ readings.Strike s d → not (eqb (d .rank) 0) ≡ flawed (read-reply r)
 unfolding flawed
-flawed-strike r s e = rw e
+flawed-strike r s d e = rw e
 
-pub flawed-refused : (r : Reading) (why : Refusal) → r ≡ readings.Refused why → true ≡ flawed (spoken r)
-unfolding flawed only
+pub flawed-refused : (r : Reading) (why : Refusal) → r ≡ readings.Refused why → true ≡ flawed (read-reply r)
+unfolding flawed
 flawed-refused r why e = rw (e, number-not-zero why)
 
 -- no card before n is damaged
 abbrev pub Clean-below : (body : List ℕ) → (n : ℕ) → Type 0
 Clean-below bs n = (k : ℕ) → 1 ≤ k → k < n → is-damaged bs k ≡ false
 
--- what may be shown of a body
-pub shows-bad : (bs : List ℕ) → body-good bs ≡ false → Worn-shows bs (shown (Refused Length))
+-- what may be answered of a body
+pub worn-is-bad : (bs : List ℕ) → body-good bs ≡ false → Worn-answers bs (worn-reply (Refused Length))
 unfolding body-refusal
-shows-bad bs e = record { refusal = rw e; refused = λ _. refl; named = λ t. absurd (true≢false (sym t ∙ e)) }
+worn-is-bad bs e = record { refusal = rw e; refused = λ _. refl; named = λ t. absurd (true≢false (sym t ∙ e)) }
 
 module _ (bs : List ℕ) (n : ℕ) where
   pub clean-next : Clean-below bs n → is-damaged bs n ≡ false → Clean-below bs (n + 1)
   clean-next h e k a b = elim (ℕ-discrete k n) [ yes p ↦ rw p e | no d ↦ h k a (omega arith) ]
 
   module _ (good : body-good bs ≡ true) where
-    pub shows-card : 1 ≤ n → n ≤ cards-in bs → is-damaged bs n ≡ true → Worn-shows bs (shown (Card n))
+    pub worn-is-card : 1 ≤ n → n ≤ cards-in bs → is-damaged bs n ≡ true → Worn-answers bs (worn-reply (Card n))
     unfolding body-refusal Named
-    shows-card a b e = record { refusal = rw good; refused = λ t. absurd (true≢false (sym good ∙ t)); named = λ _. (a, b, e) }
+    worn-is-card a b e = record { refusal = rw good; refused = λ t. absurd (true≢false (sym good ∙ t)); named = λ _. (a, b, e) }
 
-    pub shows-none : Clean-below bs n → cards-in bs < n → Worn-shows bs (shown Nothing)
+    pub worn-is-none : Clean-below bs n → cards-in bs < n → Worn-answers bs (worn-reply Nothing)
     unfolding body-refusal Named
-    shows-none h l = record { refusal = rw good; refused = λ _. refl; named = λ _ k a b. h k a (omega arith) }
+    worn-is-none h l = record { refusal = rw good; refused = λ _. refl; named = λ _ k a b. h k a (omega arith) }
 
--- "none" is shown exactly if no card is damaged
-pub worn-none : (bs : List ℕ) (s : Shown) → body-good bs ≡ true → Worn-shows bs s
-    → (s .card ≡ none) ↔ ((k : ℕ) → 1 ≤ k → k ≤ cards-in bs → is-damaged bs k ≡ false)
+-- "none" is answered exactly if no card is damaged
+pub worn-none : (bs : List ℕ) (r : Reply (Option ℕ)) → body-good bs ≡ true → Worn-answers bs r
+    → (r .value ≡ none) ↔ ((k : ℕ) → 1 ≤ k → k ≤ cards-in bs → is-damaged bs k ≡ false)
 unfolding Named
-worn-none bs s good w = go (s .card) (w .named good)
+worn-none bs r good w = go (r .value) (w .named good)
   where
     go : (o : Option ℕ) → Named bs o → (o ≡ none) ↔ ((k : ℕ) → 1 ≤ k → k ≤ cards-in bs → is-damaged bs k ≡ false)
     go none h = ((λ e. h), λ e. refl)

@@ -1,5 +1,5 @@
--- Where everything lies in a tune book (document 01: Tune book): the numbers, the entries of the contents, the bodies, the cards. A book is
--- the list of its bytes. Assumes nothing: these are definitions.
+-- Where everything lies in a tune book (SPECIFICATION 5): the numbers, the entries of the contents, the bodies, the cards. A book is
+-- the list of its bytes.
 -- Main: longest-book, tunes, tune-number, offset, cards, part-of, card.
 use mathlib.Core.Bool.{Bool, _&&_}
 use mathlib.Core.List.{List, [], _∷_}

@@ -1,5 +1,5 @@
--- Tune books as document 01 has them. In reading order.
--- Definitions (document 03)
+-- Tune books (SPECIFICATION 5 and 8.5 to 8.11). In reading order.
+-- Definitions
 pub mod Layout
 pub mod Open
 pub mod Pull
@@ -7,12 +7,12 @@ pub mod Reading
 pub mod Bodies
 pub mod Entries
 -- Laws of the loops over the contents
-pub mod Loops
+pub mod ContentsLoops
 -- What an accepted book is
 pub mod Accepted
 pub mod Pulled
 -- What is read of a body
-pub mod Cards
+pub mod CardReading
 pub mod Bounds
 pub mod CardLoops
-pub mod Strikes
+pub mod ReadBack

@@ -1,11 +1,11 @@
--- What Open refuses (document 01: Open), as three tests of a book. Assumes nothing: these are definitions.
+-- What Open refuses (document 01: Open), as three tests of a book.
 -- Main: open-refusal.
 use mathlib.Core.Bool.{Bool, true, _&&_, _||_, not, cond}
 use mathlib.Core.List.{List}
 use Prim.Native.Nat.{ℕ, zero, suc, _+_, _*_}
 use lib.Dec.{ltb, leb, eqb}
 use lib.ListN.{length}
-use Rattle.refusal.specs.Answers.{number}
+use Rattle.refusal.specs.Replies.{number}
 use Rattle.refusal.specs.declared.Refusal.the-variants.{BookSize, TuneNumber, Layout}
 use Rattle.book.specs.Layout.{longest-book, tunes, contents-end, tune-number, offset, cards}
 

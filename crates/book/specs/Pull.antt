@@ -1,11 +1,11 @@
--- What Pull refuses and gives back (document 01: Pull). Assumes nothing: these are definitions.
+-- What Pull refuses and gives back (document 01: Pull).
 -- Main: pull-refusal, place-at, pulled, pulled-from.
 use mathlib.Core.Bool.{cond}
 use mathlib.Core.List.{List, []}
 use mathlib.Core.Option.{Option, none, some}
 use Prim.Native.Nat.{ℕ, zero, suc}
 use lib.Dec.{eqb}
-use Rattle.refusal.specs.Answers.{number}
+use Rattle.refusal.specs.Replies.{number}
 use Rattle.refusal.specs.declared.Refusal.the-variants.{NoSuchTune}
 use Rattle.book.specs.Layout.{tunes, tune-number, offset, part-of}
 use Rattle.book.specs.Open.{open-refusal}

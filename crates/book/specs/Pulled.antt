@@ -1,4 +1,4 @@
--- Pull leads to each tune of an accepted book, and to nothing else. Assumes nothing.
+-- Pull leads to each tune of an accepted book, and to nothing else.
 -- Main: pulls-each, There, pulls-only, refused-empty, empty-refused, refused-from, pulled-good.
 use mathlib.Core.Path.{_≡_, refl, sym, _∙_, ap}
 use mathlib.Core.Bool.{Bool, true, false, cond}
@@ -10,12 +10,12 @@ use native.Mathlib.Omega.{arith}
 use lib.Dec.{eqb}
 use lib.ListN.{length}
 use borrow.Author.Tests.{eqb-true, eq-eqb, ne-eqb}
-use Rattle.refusal.specs.Answers.{number}
+use Rattle.refusal.specs.Replies.{number}
 use Rattle.refusal.specs.declared.Refusal.the-variants.{NoSuchTune}
 use Rattle.book.specs.Layout.{tunes, tune-number, offset, part-of, body-good}
 use Rattle.book.specs.Open.{open-refusal}
 use Rattle.book.specs.Pull.{entry-from, entry-of, missing, place-at, part-at, pull-refusal, pulled, offset-at, pulled-from}
-use Rattle.book.specs.Loops.{entry-on, entry-start, entry-next}
+use Rattle.book.specs.ContentsLoops.{entry-on, entry-start, entry-next}
 use Rattle.book.specs.Accepted.{Accepted, Accepted-entry, numbers-rise, part-some, part-good}
 
 -- AS OPEN, THEN BY THE ENTRY

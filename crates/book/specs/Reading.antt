@@ -1,56 +1,46 @@
--- What Read says of a card of a body (document 01: Tune book, Read): a strike with its damage, or a refusal with its number. Assumes
--- nothing: these are definitions.
--- Main: bell-of, force-of, delay-of, Spoken, spoken, read-refusal, reading.
+-- What Read says of a card of a body (document 01: Read): a strike with its damage, or a refusal with its number.
+-- Main: Card-value, read-reply, card-refusal, value-of-card, read-refusal, reading.
 use mathlib.Core.Bool.{Bool, _||_, not, cond}
 use mathlib.Core.List.{List}
-use Prim.Native.Nat.{ℕ, _+_, _*_, _/_}
+use Prim.Native.Nat.{ℕ, _/_}
 use lib.Dec.{ltb, eqb}
 use lib.ListN.{length}
 use Rattle.algebra.specs.Tests.{any-above}
-use Rattle.refusal.specs.Answers.{number}
+use Rattle.refusal.specs.Replies.{number, Reply, replied, refused-with, reply-with}
 use Rattle.refusal.specs.declared.Refusal.the-variants.{Length, Range, NoSuchCard}
-use Rattle.rank.specs.Definitions.{at, apart}
+use Rattle.rank.specs.declared.Weight.{Weight}
+use Rattle.rank.specs.Weight.{no-weight}
 use Rattle.coding.specs.Decode.{decode}
-use Rattle.codec.specs.Answers.{undecodable, found, decoded-word}
+use Rattle.decoder.specs.Decoding.{undecodable, or-empty, damage}
+use Rattle.strike.specs.declared.Strike.{Strike}
+use Rattle.strike.specs.Strikes.{no-strike, strike-of}
 use Rattle.book.specs.declared.reading.Reading.{Reading}
-use Rattle.book.specs.declared.reading.Reading.the-variants.{Strike, Refused}
+use Rattle.book.specs.declared.reading.Reading.the-variants as readings
 use Rattle.book.specs.Layout.{body-good, card}
 
--- WHAT A MESSAGE MEANS. Value 0 is the bell, value 1 the force, values 2 and 3 the delay
-unfoldable pub bell-of : (message : List ℕ) → ℕ
-bell-of m = at m 0
+-- WHAT A CARD IS READ AS: a strike with its damage; and what a refusal has in its place
+pub record Card-value : Type 0 where
+  pub strike : Strike
+  pub damage : Weight
 
-unfoldable pub force-of : (message : List ℕ) → ℕ
-force-of m = at m 1
+abbrev pub no-value : Card-value
+no-value = record { strike = no-strike; damage = no-weight }
 
-unfoldable pub delay-of : (message : List ℕ) → ℕ
-delay-of m = 27 * at m 2 + at m 3
+-- what an answer says
+abbrev pub read-reply : Reading → Reply Card-value
+read-reply (readings.Strike s d) = replied (record { strike = s; damage = d })
+read-reply (readings.Refused r) = refused-with no-value (number r)
 
--- WHAT IS SAID, in the numbers of document 01: 0 and a strike with its damage, or the refusal's number and zeros
-pub record Spoken : Type 0 where
-  pub refusal : ℕ
-  pub bell : ℕ
-  pub force : ℕ
-  pub delay : ℕ
-  pub damage : ℕ
-
-unfoldable pub only : (refusal : ℕ) → Spoken
-only n = record { refusal = n; bell = 0; force = 0; delay = 0; damage = 0 }
-
-unfoldable pub struck : (message : List ℕ) → (damage : ℕ) → Spoken
-struck m d = record { refusal = 0; bell = bell-of m; force = force-of m; delay = delay-of m; damage = d }
-
-abbrev pub spoken : Reading → Spoken
-spoken (Strike s) = record { refusal = 0; bell = s .bell; force = s .force; delay = s .delay; damage = s .damage }
-spoken (Refused r) = only (number r)
-
--- A CARD, whose strike has k = 2: 3 and 4 of Mend
+-- A CARD, whose strike has k = 2: 3 and 4 of Decode, or its message's strike
 unfoldable pub card-refusal : (card : List ℕ) → ℕ
 card-refusal c = cond (any-above 728 c) (number Range) (undecodable (decode 2 c))
 
+unfoldable pub value-of-card : (card : List ℕ) → Card-value
+value-of-card c = record { strike = strike-of (or-empty (decode 2 c)); damage = damage 2 c }
+
 -- what is said of it where the refusal is n, 0 if there is none
-unfoldable pub said : (refusal : ℕ) → (card : List ℕ) → Spoken
-said n c = cond (eqb n 0) (struck (found (decode 2 c)) (apart (decoded-word 2 c) c)) (only n)
+unfoldable pub card-reading : (refusal : ℕ) → (card : List ℕ) → Reply Card-value
+card-reading n c = reply-with no-value n (value-of-card c)
 
 -- A BODY has a card for every twelve bytes. A card number is 0, or past the last
 abbrev pub cards-in : (body : List ℕ) → ℕ
@@ -64,5 +54,5 @@ unfoldable pub read-refusal : (body : List ℕ) → (n : ℕ) → ℕ
 read-refusal bs n =
     cond (not (body-good bs)) (number Length) (cond (no-card bs n) (number NoSuchCard) (card-refusal (card bs n)))
 
-unfoldable pub reading : (body : List ℕ) → (n : ℕ) → Spoken
-reading bs n = said (read-refusal bs n) (card bs n)
+unfoldable pub reading : (body : List ℕ) → (n : ℕ) → Reply Card-value
+reading bs n = card-reading (read-refusal bs n) (card bs n)

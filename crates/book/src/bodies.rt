@@ -1,11 +1,10 @@
-// Length and Worn: what is said of a whole body (document 01).
-// Assumes nothing: what is asked is asked in a `requires`.
+// Length and Worn: what is said of a whole body.
 ghost use mathlib.Core.Path.{_≡_};
 ghost use mathlib.Core.Bool.{true};
-ghost use Rattle.refusal.specs.Answers.{told, answer};
+ghost use Rattle.refusal.specs.Replies.{reply, reply-with};
 ghost use Rattle.book.specs.Layout.{body-good};
-ghost use Rattle.book.specs.Reading.{spoken};
-ghost use Rattle.book.specs.Bodies.{body-refusal, total-delay, flawed, shown, Worn-shows};
+ghost use Rattle.book.specs.Reading.{read-reply};
+ghost use Rattle.book.specs.Bodies.{body-refusal, total-delay, flawed, worn-reply, Worn-answers};
 use crate::reading::Reading;
 use crate::reading::body_good;
 use crate::reading::read_card;
@@ -21,10 +20,10 @@ pub enum Worn {
 
 // How many ticks a reading adds to its tune.
 pub fn delay(read: Reading) -> u32
-    ensures { λ r. ⌜ r ≡ spoken read .delay ⌝ }
+    ensures { λ r. ⌜ r ≡ read-reply read .value .strike .delay ⌝ }
 {
     match read {
-        Reading::Strike(s) => s.delay,
+        Reading::Strike(s, _) => s.delay,
         Reading::Refused(_) => 0,
     }
 }
@@ -44,9 +43,9 @@ fn delays(body: &[u8]) -> u32
     total
 }
 
-// Document 01: Length. The sum of the delays of all readable cards, or refusal 2.
+// The sum of the delays of all readable cards, or refusal 2 (document 01: Length).
 pub fn total_delay(body: &[u8]) -> Answer
-    ensures { λ r. ⌜ told r ≡ answer (body-refusal (now (body .entry))) (total-delay (now (body .entry))) ⌝ }
+    ensures { λ r. ⌜ reply r ≡ reply-with 0 (body-refusal (now (body .entry))) (total-delay (now (body .entry))) ⌝ }
 {
     if !body_good(body) {
         return Answer::Refused(Refusal::Length);
@@ -56,10 +55,10 @@ pub fn total_delay(body: &[u8]) -> Answer
 
 // Whether a reading was refused, or mended with rank 1 or more.
 fn damaged(read: Reading) -> bool
-    ensures { λ r. ⌜ r ≡ flawed (spoken read) ⌝ }
+    ensures { λ r. ⌜ r ≡ flawed (read-reply read) ⌝ }
 {
     match read {
-        Reading::Strike(s) => s.damage != 0,
+        Reading::Strike(_, damage) => damage.rank != 0,
         Reading::Refused(_) => true,
     }
 }
@@ -67,7 +66,7 @@ fn damaged(read: Reading) -> bool
 // A damaged card, or that there is none.
 fn find_damaged(body: &[u8]) -> Worn
     requires { ⌜ body-good (now body) ≡ true ⌝ }
-    ensures { λ r. ⌜ Worn-shows (now (body .entry)) (shown r) ⌝ }
+    ensures { λ r. ⌜ Worn-answers (now (body .entry)) (worn-reply r) ⌝ }
 {
     let count = (body.len() / 12) as u32;
     let mut n = 1;
@@ -82,9 +81,9 @@ fn find_damaged(body: &[u8]) -> Worn
     }
 }
 
-// Document 01: Worn. The number of a damaged card or none, or refusal 2.
+// The number of a damaged card or none, or refusal 2 (document 01: Worn).
 pub fn damaged_card(body: &[u8]) -> Worn
-    ensures { λ r. ⌜ Worn-shows (now (body .entry)) (shown r) ⌝ }
+    ensures { λ r. ⌜ Worn-answers (now (body .entry)) (worn-reply r) ⌝ }
 {
     if !body_good(body) {
         return Worn::Refused(Refusal::Length);

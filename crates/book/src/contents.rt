@@ -1,9 +1,9 @@
-// Open: whether a file is a tune book, tested in the order of document 01.
-// Assumes nothing.
+// Open: whether a file is a tune book, tested in a fixed order.
+//
 ghost use mathlib.Core.Path.{_≡_};
 ghost use Rattle.book.specs.Layout.{tunes, Entries-within};
 ghost use Rattle.book.specs.Open.{size-bad, numbers-bad, bodies-bad, open-refusal};
-ghost use Rattle.refusal.specs.Answers.{told, answer};
+ghost use Rattle.refusal.specs.Replies.{reply, reply-with};
 use crate::fields::cards_of;
 use crate::fields::number_of;
 use crate::fields::offset_of;
@@ -74,9 +74,9 @@ fn bodies_bad(book: &[u8], entries: u16) -> bool
     end != book.len()
 }
 
-// Document 01: Open. The count of tunes, or a refusal: 5, then 6 for all entries, then 7.
+// The count of tunes, or a refusal: 5, then 6 for all entries, then 7 (document 01: Open).
 pub fn open(book: &[u8]) -> Answer
-    ensures { λ r. ⌜ told r ≡ answer (open-refusal (now (book .entry))) (tunes (now (book .entry))) ⌝ }
+    ensures { λ r. ⌜ reply r ≡ reply-with 0 (open-refusal (now (book .entry))) (tunes (now (book .entry))) ⌝ }
 {
     if size_bad(book) {
         return Answer::Refused(Refusal::BookSize);

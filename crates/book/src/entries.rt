@@ -1,9 +1,8 @@
 // The tunes of a book by their places in the contents, counted from 0.
-// Assumes nothing: what is asked is asked in a `requires`.
 ghost use mathlib.Core.Path.{_≡_};
-ghost use Rattle.book.specs.Layout.{tune-number, offset, cards, part-of};
+ghost use Rattle.book.specs.Layout.{offset, part-of};
 ghost use Rattle.book.specs.Accepted.{Accepted-entry};
-ghost use Rattle.book.specs.Entries.{listed, listed-at};
+ghost use Rattle.book.specs.Entries.{entry-tune, tune-reply, tune-at};
 use crate::contents::open;
 use crate::fields::cards_of;
 use crate::fields::number_of;
@@ -26,7 +25,7 @@ pub enum Entry {
 // The tune of entry `e` of an accepted book.
 pub fn entry_at(book: &[u8], e: usize) -> Tune
     requires { ⌜ Accepted-entry (now book) e ⌝ }
-    ensures { λ r. ⌜ (r .number ≡ tune-number (now (book .entry)) e) × (r .cards ≡ cards (now (book .entry)) e) ⌝ }
+    ensures { λ r. ⌜ r ≡ entry-tune (now (book .entry)) e ⌝ }
 {
     Tune {
         number: number_of(book, e) as u32,
@@ -54,7 +53,7 @@ pub fn body_at(book: &[u8], e: usize) -> &[u8]
 
 // The tune at a place of the contents. As Open; then 8 if the contents has no such place.
 pub fn tune_at(book: &[u8], place: u32) -> Entry
-    ensures { λ r. ⌜ listed r ≡ listed-at (now (book .entry)) place ⌝ }
+    ensures { λ r. ⌜ tune-reply r ≡ tune-at (now (book .entry)) place ⌝ }
 {
     match open(book) {
         Answer::Refused(why) => Entry::Refused(why),

@@ -1,5 +1,4 @@
 // The numbers of a book where they lie: the count of tunes, and the fields of an entry of the contents.
-// Assumes nothing: each function asks that the bytes it reads are there.
 ghost use mathlib.Core.Path.{_≡_};
 ghost use Prim.Native.Nat.{_+_, _≤_};
 ghost use lib.ListN.{length};

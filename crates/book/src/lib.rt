@@ -1,6 +1,5 @@
-// Tune books: a contents of tunes, then their bodies of cards (document 01: Tune book). Opening a book, finding a tune in it, reading its
+// Tune books: a contents of tunes, then their bodies of cards (SPECIFICATION 5). Opening a book, finding a tune in it, reading its
 // cards, and what is said of all cards of a tune.
-// Assumes nothing.
 mod bodies;
 mod contents;
 mod entries;
@@ -25,5 +24,4 @@ pub use pull::tune_body;
 pub use pull::tune_offset;
 pub use pull::tune_place;
 pub use reading::Reading;
-pub use reading::Strike;
 pub use reading::read_card;

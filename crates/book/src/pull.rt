@@ -1,10 +1,10 @@
 // Pull: the part of a book that is a tune's body, found by the tune number.
-// Assumes nothing.
+//
 ghost use mathlib.Core.Path.{_≡_};
-ghost use Rattle.refusal.specs.Answers.{outcome, told, answer};
+ghost use Rattle.refusal.specs.Replies.{outcome, reply, reply-with};
 ghost use Rattle.book.specs.Layout.{tunes, Entries-within};
 ghost use Rattle.book.specs.Pull.{entry-of, place-at, pull-refusal, pulled, pulled-from};
-ghost use Rattle.book.specs.Loops.{found};
+ghost use Rattle.book.specs.ContentsLoops.{place-of};
 use crate::contents::open;
 use crate::entries::body_at;
 use crate::entries::offset_at;
@@ -14,24 +14,24 @@ use refusal::Outcome;
 use refusal::Refusal;
 
 // Where the search for a tune number ends: at an entry of the contents, or at its end.
-enum Found {
+enum Place {
     At(usize),
-    Nothing,
+    Nowhere,
 }
 
 // The entry that bears the tune number, or that there is none.
-fn find_entry(book: &[u8], count: usize, number: u32) -> Found
+fn find_entry(book: &[u8], count: usize, number: u32) -> Place
     requires { ⌜ count ≡ tunes (now book) ⌝ }
     requires { ⌜ Entries-within (now book) ⌝ }
-    ensures { λ r. ⌜ found r ≡ entry-of (now (book .entry)) number ⌝ }
+    ensures { λ r. ⌜ place-of r ≡ entry-of (now (book .entry)) number ⌝ }
 {
     let mut e = 0;
     loop {
         if count <= e {
-            break Found::Nothing;
+            break Place::Nowhere;
         }
         if number_of(book, e) as u32 == number {
-            break Found::At(e);
+            break Place::At(e);
         }
         e += 1;
     }
@@ -39,18 +39,18 @@ fn find_entry(book: &[u8], count: usize, number: u32) -> Found
 
 // The place in the contents of the entry that bears the tune number. As Open; then 8 if no entry has the number.
 pub fn tune_place(book: &[u8], number: u32) -> Answer
-    ensures { λ r. ⌜ told r ≡ answer (pull-refusal (now (book .entry)) number) (place-at (entry-of (now (book .entry)) number)) ⌝ }
+    ensures { λ r. ⌜ reply r ≡ reply-with 0 (pull-refusal (now (book .entry)) number) (place-at (entry-of (now (book .entry)) number)) ⌝ }
 {
     match open(book) {
         Answer::Refused(why) => Answer::Refused(why),
         Answer::Value(count) => match find_entry(book, count as usize, number) {
-            Found::Nothing => Answer::Refused(Refusal::NoSuchTune),
-            Found::At(e) => Answer::Value(e as u32),
+            Place::Nowhere => Answer::Refused(Refusal::NoSuchTune),
+            Place::At(e) => Answer::Value(e as u32),
         },
     }
 }
 
-// Document 01: Pull, whether the tune is there. As Open; then 8 if no entry has the number.
+// Whether the tune is there (document 01: Pull). As Open; then 8 if no entry has the number.
 pub fn find_tune(book: &[u8], number: u32) -> Outcome
     ensures { λ r. ⌜ outcome r ≡ pull-refusal (now (book .entry)) number ⌝ }
 {
@@ -60,7 +60,7 @@ pub fn find_tune(book: &[u8], number: u32) -> Outcome
     }
 }
 
-// Document 01: Pull, the tune's own part of the book. Empty exactly on a refusal.
+// The tune's own part of the book (document 01: Pull). Empty exactly on a refusal.
 pub fn tune_body(book: &[u8], number: u32) -> &[u8]
     ensures { λ r. ⌜ now r ≡ pulled (now (book .entry)) number ⌝ }
 {

@@ -1,25 +1,17 @@
-// Read: a card of a body, read as a strike (document 01: Read). Assumes nothing: what is asked is asked in a `requires`.
+// Read: a card of a body, read as a strike.
 ghost use mathlib.Core.Path.{_≡_};
-ghost use mathlib.Core.Bool.{true};
 ghost use Prim.Native.Nat.{_≤_};
-ghost use lib.ListN.{length, take};
-ghost use Rattle.coding.specs.Code.{is-message};
+ghost use lib.ListN.{length};
 ghost use Rattle.book.specs.Layout.{body-good, symbols-from, card};
-ghost use Rattle.book.specs.Reading.{spoken, struck, card-refusal, said, no-card, cards-in, reading};
+ghost use Rattle.book.specs.Reading.{read-reply, card-refusal, card-reading, no-card, cards-in, reading};
 use crate::fields::two_bytes;
+use rank::Weight;
 use refusal::Refusal;
+use strike::Strike;
 
-// The strike that a card stands for, and its damage: the rank of the difference between the card and its word.
-pub struct Strike {
-    pub bell: u32,
-    pub force: u32,
-    pub delay: u32,
-    pub damage: u32,
-}
-
-// The answer of a reading.
+// The answer of a reading: a strike with its damage, the weight of the difference between the card and its word; or a refusal.
 pub enum Reading {
-    Strike(Strike),
+    Strike(Strike, Weight),
     Refused(Refusal),
 }
 
@@ -66,26 +58,11 @@ fn card_at(body: &[u8], n: usize) -> [u16; 6]
     symbols(&body[12 * (n - 1)..12 * n])
 }
 
-// What a message means.
-fn meaning(message: [u16; 10], damage: u8) -> Reading
-    requires { ⌜ is-message 2 (take 4 message) ≡ true ⌝ }
-    ensures { λ r. ⌜ spoken r ≡ struck (take 4 message) damage ⌝ }
-{
-    let high = message[2] as u32;
-    let low = message[3] as u32;
-    Reading::Strike(Strike {
-        bell: message[0] as u32,
-        force: message[1] as u32,
-        delay: 27 * high + low,
-        damage: damage as u32,
-    })
-}
-
-// Six symbols, read: 3 and 4 of Mend for k = 2, or their strike.
+// Six symbols, read: 3 and 4 of Decode for k = 2, or their strike.
 fn read_symbols(card: [u16; 6]) -> Reading
-    ensures { λ r. ⌜ spoken r ≡ said (card-refusal card) card ⌝ }
+    ensures { λ r. ⌜ read-reply r ≡ card-reading (card-refusal card) card ⌝ }
 {
-    if rank::any_above(&card, 728) {
+    if lists::any_above(&card, 728) {
         return Reading::Refused(Refusal::Range);
     }
     let near = decoder::decode_card(2, card);
@@ -93,12 +70,13 @@ fn read_symbols(card: [u16; 6]) -> Reading
         return Reading::Refused(Refusal::Undecodable);
     }
     let message = near.message;
-    meaning(message, near.distance)
+    let damage = near.weight;
+    Reading::Strike(strike::strike_of(message), damage)
 }
 
-// Document 01: Read. A card of a body, counted from 1: a strike with its damage, or a refusal: 2, then 9, then 3 and 4.
+// A card of a body, counted from 1: a strike with its damage, or a refusal: 2, then 9, then 3 and 4 (document 01: Read).
 pub fn read_card(body: &[u8], number: u32) -> Reading
-    ensures { λ r. ⌜ spoken r ≡ reading (now (body .entry)) number ⌝ }
+    ensures { λ r. ⌜ read-reply r ≡ reading (now (body .entry)) number ⌝ }
 {
     if !body_good(body) {
         return Reading::Refused(Refusal::Length);

@@ -1,20 +1,19 @@
--- What decoding finds, as the code has it, and proposals held to the card one after the other. Assumes nothing.
--- Main: answer, Whole, found-long, first-at, first-next, near-some, near-none, six-difference, same-next,
--- same-end.
+-- What decoding finds, as the code has it, and proposals checked against the card one after the other.
+-- Main: found-message, Consistent, found-long, first-at, first-next, near-some, near-none, six-difference.
 use mathlib.Core.Path.{_≡_, refl, sym, ap, ap₂, _∙_}
 use mathlib.Core.Bool.{true, false, true≢false, cond}
-use mathlib.Core.List.{List, [], _∷_, _++_}
+use mathlib.Core.List.{List}
 use mathlib.Core.Option.{Option, none, some}
 use Prim.Native.Nat.{ℕ, zero, suc, _+_, _*_, _-_, _/_, _≤_, _<_}
 use native.Mathlib.Decide.{ℕ-discrete}
 use native.Mathlib.Numerals.{add-one}
 use native.Mathlib.Omega.{arith}
-use lib.ListN.{length, take, getD, length-take}
-use lib.Seq.{take-suc, take-all}
+use lib.ListN.{length, take, length-take}
 use borrow.Author.Tests.{le-leb, lt-leb}
 use Rattle.algebra.specs.Tests.{passed}
 use Rattle.rank.specs.Definitions.{difference, apart, is-card}
 use Rattle.rank.specs.Arrays.{entries, six}
+use Rattle.rank.specs.Weight.{weight-of}
 use Rattle.coding.specs.Code.{word, radius, is-message}
 use Rattle.coding.specs.Coefficients.{word-long}
 use Rattle.coding.specs.Options.{or-else, first-of}
@@ -23,31 +22,31 @@ use Rattle.coding.specs.Proved.{decoded}
 use Rattle.candidate.specs.declared.found.Found.{Found}
 
 -- WHAT WAS FOUND
-unfoldable pub answer : (k : ℕ) → Found → Option (List ℕ)
-answer k r = cond (r .found) (some (take (2 * k) (r .message))) none
+unfoldable pub found-message : (k : ℕ) → Found → Option (List ℕ)
+found-message k r = cond (r .found) (some (take (2 * k) (r .message))) none
 
--- with the message goes its word, and how far that is from the card
-pub record Whole (k : ℕ) (c : List ℕ) (r : Found) : Type 0 where
+-- with the message goes its word, and the weight of the difference to the card
+pub record Consistent (k : ℕ) (c : List ℕ) (r : Found) : Type 0 where
   pub word-is : r .found ≡ true → r .word ≡ word k (take (2 * k) (r .message))
-  pub distance-is : r .found ≡ true → r .distance ≡ apart (r .word) c
+  pub weight-is : r .found ≡ true → r .weight ≡ weight-of (difference (r .word) c)
 
-pub answer-some : (k : ℕ) (r : Found) → r .found ≡ true → answer k r ≡ some (take (2 * k) (r .message))
-unfolding answer
-answer-some k r e = rw e
+pub message-some : (k : ℕ) (r : Found) → r .found ≡ true → found-message k r ≡ some (take (2 * k) (r .message))
+unfolding found-message
+message-some k r e = rw e
 
-pub answer-none : (k : ℕ) (r : Found) → r .found ≡ false → answer k r ≡ none
-unfolding answer
-answer-none k r e = rw e
+pub message-none : (k : ℕ) (r : Found) → r .found ≡ false → found-message k r ≡ none
+unfolding found-message
+message-none k r e = rw e
 
-pub whole-none : (k : ℕ) (c : List ℕ) (r : Found) → r .found ≡ false → Whole k c r
-whole-none k c r e = record { word-is = λ t. absurd (true≢false (sym t ∙ e)); distance-is = λ t. absurd (true≢false (sym t ∙ e)) }
+pub consistent-none : (k : ℕ) (c : List ℕ) (r : Found) → r .found ≡ false → Consistent k c r
+consistent-none k c r e = record { word-is = λ t. absurd (true≢false (sym t ∙ e)); weight-is = λ t. absurd (true≢false (sym t ∙ e)) }
 
 -- a message that decode finds fills its place in the array, and so does its word
-pub found-long : (k : ℕ) → 1 ≤ k → k ≤ 5 → (c : List ℕ) → is-card c ≡ true → (r : Found) → answer k r ≡ decode k c → Whole k c r → r .found ≡ true
+pub found-long : (k : ℕ) → 1 ≤ k → k ≤ 5 → (c : List ℕ) → is-card c ≡ true → (r : Found) → found-message k r ≡ decode k c → Consistent k c r → r .found ≡ true
     → (length (r .word) ≡ 6) × (2 * k ≤ length (r .message))
 unfolding is-message
 found-long k p q c card r e w f =
-    let near = decoded k p q c card (take (2 * k) (r .message)) .0 (sym e ∙ answer-some k r f) in
+    let near = decoded k p q c card (take (2 * k) (r .message)) .0 (sym e ∙ message-some k r f) in
     let l = passed (2 * k) 26 (take (2 * k) (r .message)) (near .message) .0 in
     (ap length (w .word-is f) ∙ word-long k _, omega (arith, l, length-take (2 * k) (r .message)))
 
@@ -83,7 +82,7 @@ pub first-next : (f : ℕ → Option (List ℕ)) (i : ℕ) → first-of i f ≡ 
 unfolding first-of or-else
 first-next f i e h = rw (add-one i, e, h)
 
--- A MESSAGE held to the card
+-- A MESSAGE checked against the card
 pub near-some : (k : ℕ) (c m : List ℕ) → is-message k m ≡ true → apart (word k m) c ≤ (6 - k) / 2 → if-near k c m ≡ some m
 unfolding if-near is-near radius
 near-some k c m e h = rw (e, le-leb (apart (word k m) c) ((6 - k) / 2) h)
@@ -95,13 +94,3 @@ near-none k c m h e = rw (e, lt-leb (apart (word k m) c) ((6 - k) / 2) h)
 -- the difference of two arrays of six, entry by entry
 pub six-difference : (c d : List ℕ) → length c ≡ 6 → length d ≡ 6 → difference (entries c) (entries d) ≡ difference c d
 six-difference c d k l = ap₂ difference (six c k) (six d l)
-
--- TWO ARRAYS OF SIX, compared entry by entry
-pub same-next : (c d : List ℕ) (i : ℕ) → i < length c → i < length d → take i c ≡ take i d → getD c i 0 ≡ getD d i 0 → take (i + 1) c ≡ take (i + 1) d
-same-next c d i h k e g =
-    rw (add-one i) (take-suc c i 0 h ∙ ap₂ (λ (l : List ℕ) (x : ℕ). l ++ (x ∷ [])) e g ∙ sym (take-suc d i 0 k))
-
-pub same-end : (c d : List ℕ) (i : ℕ) → length c ≡ 6 → length d ≡ 6 → 6 ≤ i → i ≤ 6 → take i c ≡ take i d → c ≡ d
-same-end c d i k l a b e =
-    let h : i ≡ 6 = omega arith in
-    sym (take-all 6 c (omega arith)) ∙ (rw h at e) ∙ take-all 6 d (omega arith)

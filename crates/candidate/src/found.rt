@@ -1,4 +1,4 @@
-// What decoding finds, and a proposed message held to the card. Assumes nothing.
+// What decoding finds, and a message checked against the card: the one place where a card with damage is weighed.
 ghost use mathlib.Core.Path.{_≡_};
 ghost use mathlib.Core.Bool.{true, false};
 ghost use Prim.Native.Nat.{_*_, _≤_};
@@ -6,14 +6,16 @@ ghost use lib.ListN.{take};
 ghost use Rattle.rank.specs.Definitions.{difference};
 ghost use Rattle.coding.specs.Code.{is-message};
 ghost use Rattle.coding.specs.Decode.{if-near};
-ghost use Rattle.candidate.specs.Finding.{answer, Whole};
+ghost use Rattle.candidate.specs.Finding.{found-message, Consistent};
+use rank::Weight;
+use rank::no_weight;
 
-// The message near a card, in the first 2k places, with its word and how far that is from the card; or none.
+// The message near a card, in the first 2k places, with its word and the weight of the difference to the card; or none.
 pub struct Found {
     pub found: bool,
     pub message: [u16; 10],
     pub word: [u16; 6],
-    pub distance: u8,
+    pub weight: Weight,
 }
 
 pub fn nothing() -> Found
@@ -23,11 +25,12 @@ pub fn nothing() -> Found
         found: false,
         message: [0u16; 10],
         word: [0u16; 6],
-        distance: 0,
+        weight: no_weight(),
     }
 }
 
-fn difference(c: [u16; 6], d: [u16; 6]) -> [u16; 6]
+// Six symbols less six others.
+pub fn difference(c: [u16; 6], d: [u16; 6]) -> [u16; 6]
     ensures { λ r. ⌜ r ≡ difference c d ⌝ }
 {
     [
@@ -43,17 +46,17 @@ fn difference(c: [u16; 6], d: [u16; 6]) -> [u16; 6]
 // A message with its word, where that is within the radius of the card.
 pub fn near(card: [u16; 6], k: usize, message: [u16; 10]) -> Found
     requires { ⌜ (1 ≤ k) × (k ≤ 5) × (is-message k (take (2 * k) message) ≡ true) ⌝ }
-    ensures { λ r. ⌜ (answer k r ≡ if-near k card (take (2 * k) message)) × Whole k card r ⌝ }
+    ensures { λ r. ⌜ (found-message k r ≡ if-near k card (take (2 * k) message)) × Consistent k card r ⌝ }
 {
     let word = codec::word_of(k, message);
-    let distance = rank::rank_of(difference(word, card));
-    if (6 - k) / 2 < (distance as usize) {
+    let weight = rank::weight_of(difference(word, card));
+    if (6 - k) / 2 < (weight.rank as usize) {
         return nothing();
     }
     Found {
         found: true,
         message,
         word,
-        distance,
+        weight,
     }
 }

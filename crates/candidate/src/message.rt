@@ -1,34 +1,16 @@
 // The message read off the coefficients of a word's polynomial: the low number of the first, both of those in between, the high one of the
-// last. Assumes nothing.
+// last.
 ghost use mathlib.Core.Path.{_≡_};
 ghost use Prim.Native.Nat.{suc, _*_, _≤_};
 ghost use lib.ListN.{take};
 ghost use Rattle.algebra.specs.Lists.{table};
 ghost use Rattle.rank.specs.Definitions.{at};
 ghost use Rattle.coding.specs.Coefficients.{read};
-ghost use Rattle.candidate.specs.Places.{few-places, all-places};
+ghost use Rattle.candidate.specs.Places.{leading-numbers};
 
-// What k = 1 and 2 need of it, but for the last number.
-fn few_numbers(f: [u16; 6]) -> [u16; 10]
-    ensures { λ r. ⌜ r ≡ few-places f ⌝ }
-{
-    [
-        field::low(f[0]),
-        field::low(f[1]),
-        field::high(f[1]),
-        0,
-        0,
-        0,
-        0,
-        0,
-        0,
-        0,
-    ]
-}
-
-// The same for every k.
-fn all_numbers(f: [u16; 6]) -> [u16; 10]
-    ensures { λ r. ⌜ r ≡ all-places f ⌝ }
+// Its numbers but for the last, in their places.
+fn leading_numbers(f: [u16; 6]) -> [u16; 10]
+    ensures { λ r. ⌜ r ≡ leading-numbers f ⌝ }
 {
     [
         field::low(f[0]),
@@ -44,23 +26,12 @@ fn all_numbers(f: [u16; 6]) -> [u16; 10]
     ]
 }
 
-fn numbers(k: usize, f: [u16; 6]) -> [u16; 10]
-    ensures few { λ r. ⌜ (k ≤ 2 → r ≡ few-places f) ⌝ }
-    ensures all { λ r. ⌜ (3 ≤ k → r ≡ all-places f) ⌝ }
-{
-    if k <= 2 {
-        few_numbers(f)
-    } else {
-        all_numbers(f)
-    }
-}
-
 // The message for k, in the first 2k places.
 pub fn read_message(k: usize, f: [u16; 6]) -> [u16; 10]
     requires { ⌜ (1 ≤ k) × (k ≤ 5) ⌝ }
     ensures { λ r. ⌜ take (2 * k) r ≡ read (table (suc k) (at f)) ⌝ }
 {
-    let mut m = numbers(k, f);
+    let mut m = leading_numbers(f);
     m[2 * k - 1] = field::high(f[k]);
     m
 }

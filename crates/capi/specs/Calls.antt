@@ -1,38 +1,31 @@
--- What the functions of the C interface promise: the refusal's number, and what is in each list and number lent afterwards. Assumes nothing:
--- these are definitions.
--- Main: kept, Gives, Encodes, Tests, Decodes, Pulls, Lists, Reads, Names, Writes.
+-- What the functions of the C interface promise: the refusal's number, and what is in each list and number lent afterwards.
+-- Main: Gives, Encodes, Tests, Decodes, Pulls, Lists, Reads, Names, Writes.
 use mathlib.Core.Path.{_≡_}
-use mathlib.Core.Bool.{true, false, cond}
+use mathlib.Core.Bool.{true, false}
 use mathlib.Core.List.{List}
 use mathlib.Core.Option.{Option, none, some}
 use Prim.Native.Nat.{ℕ}
-use lib.Dec.{eqb}
 use lib.ListN.{length}
-use Rattle.rank.specs.Definitions.{apart}
+use Rattle.refusal.specs.Replies.{unless}
 use Rattle.coding.specs.Code.{word, test-values}
 use Rattle.coding.specs.Decode.{decode}
 use Rattle.coding.specs.Mu.{mu}
-use Rattle.codec.specs.Answers.{unless, encode-refusal, syndrome-refusal, decode-refusal, decoded-word, found}
-use Rattle.book.specs.declared.reading.Reading.{Reading}
-use Rattle.book.specs.declared.reading.Strike.{Strike}
+use Rattle.codec.specs.Operations.{encode-refusal, syndrome-refusal}
+use Rattle.decoder.specs.Decoding.{decode-refusal, decoded-word, or-empty, damage}
 use Rattle.book.specs.Layout.{body-good}
 use Rattle.book.specs.Pull.{pull-refusal, pulled, pulled-from}
-use Rattle.book.specs.Entries.{listed-at}
-use Rattle.book.specs.Reading.{spoken, reading}
+use Rattle.book.specs.Entries.{tune-at}
+use Rattle.book.specs.Reading.{reading}
 use Rattle.book.specs.Bodies.{body-refusal, Named}
 use Rattle.text.specs.Text.{written, room-refusal}
 use Rattle.listing.specs.Listing.{listing, longest}
 
--- a number afterwards: the answer, or what it was where there is a refusal
-unfoldable pub kept : (refusal : ℕ) → (new old : ℕ) → ℕ
-kept n new old = cond (eqb n 0) new old
-
 -- a call whose refusal is n and whose answer is v
 pub record Gives (n v old r now : ℕ) : Type 0 where
   pub answers : r ≡ n
-  pub number-is : now ≡ kept n v old
+  pub number-is : now ≡ unless n v old
 
--- Press, Test and Mend fill their lists
+-- encoding, testing and decoding fill their lists
 pub record Encodes (k : ℕ) (m w : List ℕ) (r : ℕ) (w-now : List ℕ) : Type 0 where
   pub answers : r ≡ encode-refusal k m (length w)
   pub word-is : w-now ≡ unless (encode-refusal k m (length w)) (word k m) w
@@ -44,35 +37,28 @@ pub record Tests (k : ℕ) (c v : List ℕ) (r : ℕ) (v-now : List ℕ) : Type 
 pub record Decodes (k : ℕ) (c w m : List ℕ) (d r : ℕ) (w-now m-now : List ℕ) (d-now : ℕ) : Type 0 where
   pub answers : r ≡ decode-refusal k c (length w) (length m)
   pub word-is : w-now ≡ unless (decode-refusal k c (length w) (length m)) (decoded-word k c) w
-  pub message-is : m-now ≡ unless (decode-refusal k c (length w) (length m)) (found (decode k c)) m
-  pub distance-is : d-now ≡ kept (decode-refusal k c (length w) (length m)) (apart (decoded-word k c) c) d
+  pub message-is : m-now ≡ unless (decode-refusal k c (length w) (length m)) (or-empty (decode k c)) m
+  pub distance-is : d-now ≡ unless (decode-refusal k c (length w) (length m)) (damage k c .rank) d
 
 -- pulling gives the part as its offset and its length
 pub record Pulls (bs : List ℕ) (t o l r o-now l-now : ℕ) : Type 0 where
   pub answers : r ≡ pull-refusal bs t
-  pub offset-is : o-now ≡ kept (pull-refusal bs t) (pulled-from bs t) o
-  pub length-is : l-now ≡ kept (pull-refusal bs t) (length (pulled bs t)) l
+  pub offset-is : o-now ≡ unless (pull-refusal bs t) (pulled-from bs t) o
+  pub length-is : l-now ≡ unless (pull-refusal bs t) (length (pulled bs t)) l
 
 -- a tune of the contents is given as its number and its count of cards
 pub record Lists (bs : List ℕ) (e n c r n-now c-now : ℕ) : Type 0 where
-  pub answers : r ≡ listed-at bs e .refusal
-  pub number-is : n-now ≡ kept (listed-at bs e .refusal) (listed-at bs e .number) n
-  pub cards-is : c-now ≡ kept (listed-at bs e .refusal) (listed-at bs e .cards) c
-
--- what a reading's strike says
-pub record Struck (read : Reading) (s : Strike) : Type 0 where
-  pub bell : s .bell ≡ spoken read .bell
-  pub force : s .force ≡ spoken read .force
-  pub delay : s .delay ≡ spoken read .delay
-  pub damage : s .damage ≡ spoken read .damage
+  pub answers : r ≡ tune-at bs e .refusal
+  pub number-is : n-now ≡ unless (tune-at bs e .refusal) (tune-at bs e .value .number) n
+  pub cards-is : c-now ≡ unless (tune-at bs e .refusal) (tune-at bs e .value .cards) c
 
 -- reading gives a strike with its damage
 pub record Reads (bs : List ℕ) (n b f d x r b-now f-now d-now x-now : ℕ) : Type 0 where
   pub answers : r ≡ reading bs n .refusal
-  pub bell-is : b-now ≡ kept (reading bs n .refusal) (reading bs n .bell) b
-  pub force-is : f-now ≡ kept (reading bs n .refusal) (reading bs n .force) f
-  pub delay-is : d-now ≡ kept (reading bs n .refusal) (reading bs n .delay) d
-  pub damage-is : x-now ≡ kept (reading bs n .refusal) (reading bs n .damage) x
+  pub bell-is : b-now ≡ unless (reading bs n .refusal) (reading bs n .value .strike .bell) b
+  pub force-is : f-now ≡ unless (reading bs n .refusal) (reading bs n .value .strike .force) f
+  pub delay-is : d-now ≡ unless (reading bs n .refusal) (reading bs n .value .strike .delay) d
+  pub damage-is : x-now ≡ unless (reading bs n .refusal) (reading bs n .value .damage .rank) x
 
 -- a card as a number, none being 0
 unfoldable pub card-number : Option ℕ → ℕ
@@ -89,4 +75,4 @@ pub record Names (bs : List ℕ) (n r n-now : ℕ) : Type 0 where
 pub record Writes (bs text : List ℕ) (w r : ℕ) (text-now : List ℕ) (w-now : ℕ) : Type 0 where
   pub answers : r ≡ room-refusal longest text
   pub text-is : text-now ≡ unless (room-refusal longest text) (written text 0 (listing bs)) text
-  pub written-is : w-now ≡ kept (room-refusal longest text) (length (listing bs)) w
+  pub written-is : w-now ≡ unless (room-refusal longest text) (length (listing bs)) w

@@ -1,5 +1,5 @@
--- What is given follows from the operations' answers. Assumes nothing.
--- Main: kept-none, kept-same, given-told; struck-refused, spoken-refused; lists-refused, lists-tune; names-card, names-none, names-refused;
+-- What is given follows from the operations' answers.
+-- Main: unless-none, unless-same, given, refused-given, value-given; reads-refused, reads-strike; lists-refused, lists-tune; names-card, names-none, names-refused;
 -- pulled-short.
 use mathlib.Core.Path.{_≡_, refl, sym, ap, _∙_}
 use mathlib.Core.Bool.{Bool, true, false, cond}
@@ -9,78 +9,94 @@ use Prim.Native.Nat.{ℕ, _≤_}
 use native.Mathlib.Omega.{arith}
 use lib.Dec.{eqb}
 use lib.ListN.{length}
-use borrow.Author.Tests.{eqb-false, ne-eqb}
+use borrow.Author.Tests.{ne-eqb}
 use Rattle.refusal.specs.declared.Refusal.{Refusal}
 use Rattle.refusal.specs.declared.Refusal.the-variants.{Length}
-use Rattle.refusal.specs.Answers.{number, number-not-zero, Told, answer}
+use Rattle.refusal.specs.Replies.{number, refusal-some, Reply, replied, refused-with, reply-with, unless}
+use Rattle.rank.specs.declared.Weight.{Weight}
+use Rattle.strike.specs.declared.Strike.{Strike}
 use Rattle.book.specs.declared.entries.Entry.{Entry}
 use Rattle.book.specs.declared.entries.Entry.the-variants as entries
 use Rattle.book.specs.declared.entries.Tune.{Tune}
 use Rattle.book.specs.declared.reading.Reading.{Reading}
-use Rattle.book.specs.declared.reading.Reading.the-variants.{Refused}
+use Rattle.book.specs.declared.reading.Reading.the-variants as readings
 use Rattle.book.specs.declared.bodies.Worn.{Worn}
 use Rattle.book.specs.declared.bodies.Worn.the-variants as worn
 use Rattle.book.specs.Layout.{body-good}
 use Rattle.book.specs.Pull.{pulled}
 use Rattle.book.specs.Pulled.{pulled-good}
-use Rattle.book.specs.Entries.{Listed, unlisted, listed, listed-at}
-use Rattle.book.specs.Reading.{only, spoken}
-use Rattle.book.specs.Bodies.{body-refusal, shown, Worn-shows}
+use Rattle.book.specs.Entries.{tune-reply, tune-at}
+use Rattle.book.specs.Reading.{Card-value, read-reply, reading}
+use Rattle.book.specs.Bodies.{body-refusal, worn-reply, Worn-answers}
 use Rattle.book.specs.CardLoops.{good-length}
-use Rattle.capi.specs.Calls.{kept, Gives, Lists, Struck, card-number, Names}
+use Rattle.capi.specs.Calls.{Gives, Lists, Reads, card-number, Names}
 
 -- A NUMBER AFTERWARDS: the answer where there is no refusal, else what it was
-pub kept-none : (n v old : ℕ) → n ≡ 0 → v ≡ kept n v old
-unfolding kept
-kept-none n v old e = rw e
+pub unless-none : (n v old : ℕ) → n ≡ 0 → v ≡ unless n v old
+unfolding unless
+unless-none n v old e = rw e
 
-pub kept-same : (n v old : ℕ) → (n ≡ 0 → ⊥) → old ≡ kept n v old
-unfolding kept
-kept-same n v old e = rw (ne-eqb n 0 e)
+pub unless-same : (n v old : ℕ) → (n ≡ 0 → ⊥) → old ≡ unless n v old
+unfolding unless
+unless-same n v old e = rw (ne-eqb n 0 e)
 
-kept-told : (n v old : ℕ) → kept n (cond (eqb n 0) v 0) old ≡ kept n v old
-unfolding kept
-kept-told n v old = go (eqb n 0)
-  where
-    go : (b : Bool) → cond b (cond b v 0) old ≡ cond b v old
-    go true = refl
-    go false = refl
+-- from an answer that replies n and v, of which one number is given
+module _ {A : Type 0} (f : A → ℕ) (empty : A) where
+  given-value : (n old : ℕ) (v : A) (b : Bool) → cond b (f (cond b v empty)) old ≡ cond b (f v) old
+  given-value n old v true = refl
+  given-value n old v false = refl
 
--- from an answer that tells n and v
-pub given-told : (t : Told) (n v old r now : ℕ) → t ≡ answer n v → r ≡ t .refusal → now ≡ kept (t .refusal) (t .value) old → Gives n v old r now
-unfolding answer
-given-told t n v old r now e a g =
-    record { answers = a ∙ ap (λ (x : Told). x .refusal) e; number-is = g ∙ ap (λ (x : Told). kept (x .refusal) (x .value) old) e ∙ kept-told n v old }
+  pub given : (t : Reply A) (n : ℕ) (v : A) (old r now : ℕ) → t ≡ reply-with empty n v → r ≡ t .refusal → now ≡ unless (t .refusal) (f (t .value)) old
+      → Gives n (f v) old r now
+  unfolding reply-with unless
+  given t n v old r now e a g = record {
+    answers = a ∙ ap (λ (x : Reply A). x .refusal) e;
+    number-is = g ∙ ap (λ (x : Reply A). unless (x .refusal) (f (x .value)) old) e ∙ given-value n old v (eqb n 0);
+  }
+
+  -- in code: a refusal leaves the number as it was, a value is given
+  pub refused-given : (t : Reply A) (x : Refusal) (m old : ℕ) → t ≡ refused-with empty (number x) → m ≡ number x
+      → (m ≡ t .refusal) × (old ≡ unless (t .refusal) (f (t .value)) old)
+  refused-given t x m old e q = rw e (q, unless-same _ _ _ (refusal-some x))
+
+  pub value-given : (t : Reply A) (v : A) (old : ℕ) → t ≡ replied v → (0 ≡ t .refusal) × (f v ≡ unless (t .refusal) (f (t .value)) old)
+  value-given t v old e = rw e (refl, unless-none 0 (f v) old refl)
 
 -- READ
-pub struck-refused : (read : Reading) (x : Refusal) → read ≡ Refused x → Struck read (record { bell = 0; force = 0; delay = 0; damage = 0 })
-unfolding only
-struck-refused read x e = rw e (record { bell = refl; force = refl; delay = refl; damage = refl })
+module _ (bs : List ℕ) (n : ℕ) (r : Reading) (e : read-reply r ≡ reading bs n) where
+  pub reads-refused : (x : Refusal) (m b f d y : ℕ) → r ≡ readings.Refused x → m ≡ number x → Reads bs n b f d y m b f d y
+  reads-refused x m b f d y p q =
+      let z : number x ≡ reading bs n .refusal = ap (λ (t : Reply Card-value). t .refusal) (rw p at e) in
+      let s : reading bs n .refusal ≡ 0 → ⊥ = λ w. refusal-some x (z ∙ w) in
+      record { answers = q ∙ z; bell-is = unless-same _ _ _ s; force-is = unless-same _ _ _ s; delay-is = unless-same _ _ _ s; damage-is = unless-same _ _ _ s }
 
-pub spoken-refused : (read : Reading) (x : Refusal) → read ≡ Refused x → number x ≡ spoken read .refusal
-unfolding only
-spoken-refused read x e = rw e refl
-
--- a refusal's number is not 0
-refusal-some : (x : Refusal) → number x ≡ 0 → ⊥
-refusal-some x e = eqb-false (number x) 0 (number-not-zero x) e
+  pub reads-strike : (s : Strike) (w : Weight) (b f d y : ℕ) → r ≡ readings.Strike s w → Reads bs n b f d y 0 (s .bell) (s .force) (s .delay) (w .rank)
+  reads-strike s w b f d y p =
+      let t = rw p at e in
+      let z : 0 ≡ reading bs n .refusal = ap (λ (x : Reply Card-value). x .refusal) t in
+      record {
+        answers = z;
+        bell-is = ap (λ (x : Reply Card-value). x .value .strike .bell) t ∙ unless-none _ _ _ (sym z);
+        force-is = ap (λ (x : Reply Card-value). x .value .strike .force) t ∙ unless-none _ _ _ (sym z);
+        delay-is = ap (λ (x : Reply Card-value). x .value .strike .delay) t ∙ unless-none _ _ _ (sym z);
+        damage-is = ap (λ (x : Reply Card-value). x .value .damage .rank) t ∙ unless-none _ _ _ (sym z);
+      }
 
 -- A TUNE BY ITS PLACE
-module _ (bs : List ℕ) (e n c : ℕ) (r : Entry) (l : listed r ≡ listed-at bs e) where
+module _ (bs : List ℕ) (e n c : ℕ) (r : Entry) (l : tune-reply r ≡ tune-at bs e) where
   pub lists-refused : (x : Refusal) (m : ℕ) → r ≡ entries.Refused x → m ≡ number x → Lists bs e n c m n c
-  unfolding unlisted
   lists-refused x m p q =
-      let z : number x ≡ listed-at bs e .refusal = ap (λ (t : Listed). t .refusal) (rw p at l) in
-      let s : listed-at bs e .refusal ≡ 0 → ⊥ = λ y. refusal-some x (z ∙ y) in
-      record { answers = q ∙ z; number-is = kept-same _ _ _ s; cards-is = kept-same _ _ _ s }
+      let z : number x ≡ tune-at bs e .refusal = ap (λ (t : Reply Tune). t .refusal) (rw p at l) in
+      let s : tune-at bs e .refusal ≡ 0 → ⊥ = λ y. refusal-some x (z ∙ y) in
+      record { answers = q ∙ z; number-is = unless-same _ _ _ s; cards-is = unless-same _ _ _ s }
 
   pub lists-tune : (t : Tune) → r ≡ entries.Tune t → Lists bs e n c 0 (t .number) (t .cards)
   lists-tune t p =
-      let z : 0 ≡ listed-at bs e .refusal = ap (λ (x : Listed). x .refusal) (rw p at l) in
+      let z : 0 ≡ tune-at bs e .refusal = ap (λ (x : Reply Tune). x .refusal) (rw p at l) in
       record {
         answers = z;
-        number-is = ap (λ (x : Listed). x .number) (rw p at l) ∙ kept-none _ _ _ (sym z);
-        cards-is = ap (λ (x : Listed). x .cards) (rw p at l) ∙ kept-none _ _ _ (sym z);
+        number-is = ap (λ (x : Reply Tune). x .value .number) (rw p at l) ∙ unless-none _ _ _ (sym z);
+        cards-is = ap (λ (x : Reply Tune). x .value .cards) (rw p at l) ∙ unless-none _ _ _ (sym z);
       }
 
 -- WORN
@@ -92,7 +108,7 @@ not-good : (bs : List ℕ) (x : Refusal) → number x ≡ body-refusal bs → bo
 unfolding body-refusal
 not-good bs x e g = refusal-some x (rw g at e)
 
-module _ (bs : List ℕ) (old : ℕ) (w : Worn) (s : Worn-shows bs (shown w)) where
+module _ (bs : List ℕ) (old : ℕ) (w : Worn) (s : Worn-answers bs (worn-reply w)) where
   pub names-card : (n : ℕ) → w ≡ worn.Card n → Names bs old 0 n
   unfolding card-number
   names-card n e =

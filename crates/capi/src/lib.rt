@@ -1,33 +1,47 @@
 // The C interface (include/lucetcoral.h): numbers and lists only, thin over the library. Each function returns 0 when done, or the refusal's
-// number; a refusal changes nothing that is lent. Assumes nothing.
+// number; a refusal changes nothing that is lent.
 ghost use mathlib.Core.Path.{_≡_};
-ghost use Rattle.refusal.specs.Answers.{told};
-ghost use Rattle.rank.specs.Definitions.{rank};
-ghost use Rattle.rank.specs.Weight.{weight-refusal};
+ghost use Rattle.refusal.specs.Replies.{reply, unless};
+ghost use Rattle.rank.specs.Weight.{weight-of, weight-reply, weight-refusal};
 ghost use Rattle.book.specs.Layout.{tunes};
 ghost use Rattle.book.specs.Open.{open-refusal};
-ghost use Rattle.book.specs.Reading.{spoken};
 ghost use Rattle.book.specs.Bodies.{body-refusal, total-delay};
-ghost use Rattle.capi.specs.Calls.{kept, Gives, Encodes, Tests, Decodes, Pulls, Lists, Struck, Reads, Names, Writes};
+ghost use Rattle.capi.specs.Calls.{Gives, Encodes, Tests, Decodes, Pulls, Lists, Reads, Names, Writes};
 use book::Entry;
 use book::Reading;
-use book::Strike;
 use book::Worn;
+use rank::Weighed;
 use refusal::Answer;
 
 // An answer in two numbers: the refusal's number is returned, and the value is given where there is none.
 fn give(a: Answer, value: &mut u32) -> u32
-    ensures refusal { λ r. ⌜ r ≡ told a .refusal ⌝ }
-    ensures given { λ r. ⌜ now (value .exit) ≡ kept (told a .refusal) (told a .value) (now (value .entry)) ⌝ }
+    ensures refusal { λ r. ⌜ r ≡ reply a .refusal ⌝ }
+    ensures given { λ r. ⌜ now (value .exit) ≡ unless (reply a .refusal) (reply a .value) (now (value .entry)) ⌝ }
 {
-    let number = refusal::answer_number(a);
-    if number == 0 {
-        *value = refusal::answer_value(a);
+    match a {
+        Answer::Refused(why) => refusal::number(why),
+        Answer::Value(v) => {
+            *value = v;
+            0
+        },
     }
-    number
 }
 
-// Document 01: Press.
+// The same of an answer that holds a weight, of which the rank is given.
+fn give_rank(a: Weighed, rank: &mut u32) -> u32
+    ensures refusal { λ r. ⌜ r ≡ weight-reply a .refusal ⌝ }
+    ensures given { λ r. ⌜ now (rank .exit) ≡ unless (weight-reply a .refusal) (weight-reply a .value .rank) (now (rank .entry)) ⌝ }
+{
+    match a {
+        Weighed::Refused(why) => refusal::number(why),
+        Weighed::Weight(weight) => {
+            *rank = weight.rank;
+            0
+        },
+    }
+}
+
+// The word of a message (document 01: Press).
 #[no_mangle]
 pub extern "C" fn lucetcoral_encode(k: u32, message: &[u16], word: &mut [u16]) -> u32
     ensures { λ r. ⌜ Encodes k (now (message .entry)) (now (word .entry)) r (now (word .exit)) ⌝ }
@@ -35,15 +49,15 @@ pub extern "C" fn lucetcoral_encode(k: u32, message: &[u16], word: &mut [u16]) -
     refusal::outcome_number(codec::encode(k, message, word))
 }
 
-// Document 01: Weigh.
+// The rank of a card (document 01: Weigh).
 #[no_mangle]
-pub extern "C" fn lucetcoral_weight(symbols: &[u16], weight: &mut u32) -> u32
-    ensures { λ r. ⌜ Gives (weight-refusal (now (symbols .entry))) (rank (now (symbols .entry))) (now (weight .entry)) r (now (weight .exit)) ⌝ }
+pub extern "C" fn lucetcoral_weight(symbols: &[u16], rank: &mut u32) -> u32
+    ensures { λ r. ⌜ Gives (weight-refusal (now (symbols .entry))) (weight-of (now (symbols .entry)) .rank) (now (rank .entry)) r (now (rank .exit)) ⌝ }
 {
-    give(rank::weight(symbols), weight)
+    give_rank(rank::weigh(symbols), rank)
 }
 
-// Document 01: Test.
+// The test values of a card (document 01: Test).
 #[no_mangle]
 pub extern "C" fn lucetcoral_syndrome(k: u32, received: &[u16], values: &mut [u16]) -> u32
     ensures { λ r. ⌜ Tests k (now (received .entry)) (now (values .entry)) r (now (values .exit)) ⌝ }
@@ -51,7 +65,7 @@ pub extern "C" fn lucetcoral_syndrome(k: u32, received: &[u16], values: &mut [u1
     refusal::outcome_number(codec::syndrome(k, received, values))
 }
 
-// Document 01: Mend.
+// The word near a card, its message and the rank of the difference (document 01: Mend).
 #[no_mangle]
 pub extern "C" fn lucetcoral_decode(
     k: u32,
@@ -62,10 +76,10 @@ pub extern "C" fn lucetcoral_decode(
 ) -> u32
     ensures { λ r. ⌜ Decodes k (now (received .entry)) (now (word .entry)) (now (message .entry)) (now (distance .entry)) r (now (word .exit)) (now (message .exit)) (now (distance .exit)) ⌝ }
 {
-    give(decoder::decode(k, received, word, message), distance)
+    give_rank(decoder::decode(k, received, word, message), distance)
 }
 
-// Document 01: Open.
+// The number of tunes of a book (document 01: Open).
 #[no_mangle]
 pub extern "C" fn lucetcoral_open(book: &[u8], count: &mut u32) -> u32
     ensures { λ r. ⌜ Gives (open-refusal (now (book .entry))) (tunes (now (book .entry))) (now (count .entry)) r (now (count .exit)) ⌝ }
@@ -73,7 +87,7 @@ pub extern "C" fn lucetcoral_open(book: &[u8], count: &mut u32) -> u32
     give(book::open(book), count)
 }
 
-// Document 01: Pull. The part of the book as its offset and its length.
+// A tune's part of the book, as its offset and its length (document 01: Pull).
 #[no_mangle]
 pub extern "C" fn lucetcoral_tune_body(
     book: &[u8],
@@ -113,32 +127,7 @@ pub extern "C" fn lucetcoral_tune_at(
     }
 }
 
-// The number of a reading's refusal, 0 if there is none.
-fn reading_number(read: Reading) -> u32
-    ensures { λ r. ⌜ r ≡ spoken read .refusal ⌝ }
-{
-    match read {
-        Reading::Strike(_) => 0,
-        Reading::Refused(why) => refusal::number(why),
-    }
-}
-
-// The strike of a reading, zeros where it was refused.
-fn reading_strike(read: Reading) -> Strike
-    ensures { λ r. ⌜ Struck read r ⌝ }
-{
-    match read {
-        Reading::Strike(s) => s,
-        Reading::Refused(_) => Strike {
-            bell: 0,
-            force: 0,
-            delay: 0,
-            damage: 0,
-        },
-    }
-}
-
-// Document 01: Read.
+// A card of a body: its strike and the rank of its damage (document 01: Read).
 #[no_mangle]
 pub extern "C" fn lucetcoral_read_card(
     body: &[u8],
@@ -150,19 +139,19 @@ pub extern "C" fn lucetcoral_read_card(
 ) -> u32
     ensures { λ r. ⌜ Reads (now (body .entry)) number (now (bell .entry)) (now (force .entry)) (now (delay .entry)) (now (damage .entry)) r (now (bell .exit)) (now (force .exit)) (now (delay .exit)) (now (damage .exit)) ⌝ }
 {
-    let read = book::read_card(body, number);
-    let n = reading_number(read);
-    if n == 0 {
-        let s = reading_strike(read);
-        *bell = s.bell;
-        *force = s.force;
-        *delay = s.delay;
-        *damage = s.damage;
+    match book::read_card(body, number) {
+        Reading::Refused(why) => refusal::number(why),
+        Reading::Strike(s, weight) => {
+            *bell = s.bell;
+            *force = s.force;
+            *delay = s.delay;
+            *damage = weight.rank;
+            0
+        },
     }
-    n
 }
 
-// Document 01: Length.
+// The sum of the delays of all readable cards (document 01: Length).
 #[no_mangle]
 pub extern "C" fn lucetcoral_total_delay(body: &[u8], ticks: &mut u32) -> u32
     ensures { λ r. ⌜ Gives (body-refusal (now (body .entry))) (total-delay (now (body .entry))) (now (ticks .entry)) r (now (ticks .exit)) ⌝ }
@@ -170,7 +159,7 @@ pub extern "C" fn lucetcoral_total_delay(body: &[u8], ticks: &mut u32) -> u32
     give(book::total_delay(body), ticks)
 }
 
-// Document 01: Worn. Card 0 is none.
+// The number of a damaged card, 0 for none (document 01: Worn).
 #[no_mangle]
 pub extern "C" fn lucetcoral_damaged_card(body: &[u8], card: &mut u32) -> u32
     ensures { λ r. ⌜ Names (now (body .entry)) (now (card .entry)) r (now (card .exit)) ⌝ }
@@ -189,7 +178,7 @@ pub extern "C" fn lucetcoral_damaged_card(body: &[u8], card: &mut u32) -> u32
     }
 }
 
-// Document 01: the listing program's text.
+// The listing of a book.
 #[no_mangle]
 pub extern "C" fn lucetcoral_list(book: &[u8], text: &mut [u8], written: &mut usize) -> u32
     ensures { λ r. ⌜ Writes (now (book .entry)) (now (text .entry)) (now (written .entry)) r (now (text .exit)) (now (written .exit)) ⌝ }

@@ -18,10 +18,10 @@ pub(crate) fn encode(line: &[u8], at: usize) {
     run_encode(k.value, &message[..m.count], &mut word[..w.count]);
 }
 
-pub(crate) fn weight(line: &[u8], at: usize) {
+pub(crate) fn weigh(line: &[u8], at: usize) {
     let mut symbols = [0u16; 16];
     let s = parse::symbols(line, at, &mut symbols);
-    print::answer(rank::weight(&symbols[..s.count]));
+    print::weighed(rank::weigh(&symbols[..s.count]));
 }
 
 fn run_syndrome(k: u32, received: &[u16], values: &mut [u16]) {
@@ -39,7 +39,7 @@ pub(crate) fn syndrome(line: &[u8], at: usize) {
 }
 
 fn run_decode(k: u32, received: &[u16], word: &mut [u16], message: &mut [u16]) {
-    print::answer(decoder::decode(k, received, word, message));
+    print::weighed(decoder::decode(k, received, word, message));
     print::symbols(word);
     print::symbols(message);
 }

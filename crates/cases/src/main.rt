@@ -13,7 +13,7 @@ fn run(line: &[u8]) {
     let which = operation.value;
     match which {
         1 => code::encode(line, at),
-        2 => code::weight(line, at),
+        2 => code::weigh(line, at),
         3 => code::syndrome(line, at),
         4 => code::decode(line, at),
         5 => tunes::open(line, at),

@@ -1,5 +1,4 @@
 // Decimal numbers, lists and lines from a text. Whatever is no digit separates numbers; a number that is missing is 0.
-// Assumes nothing.
 ghost use Prim.Native.Nat.{_<_, _≤_};
 ghost use lib.ListN.{length};
 ghost use Rattle.io.specs.Counts.{Counts};
@@ -33,7 +32,7 @@ pub(crate) fn line_end(text: &[u8], at: usize) -> usize
 }
 
 // The value of a digit, or a number above 9 for any other byte.
-fn digit(byte: u8) -> u8 {
+fn digit_value(byte: u8) -> u8 {
     std::num::wrapping_sub_u8(byte, b'0')
 }
 
@@ -41,7 +40,7 @@ fn digit(byte: u8) -> u8 {
 fn digit_from(text: &[u8], at: usize) -> usize {
     let mut i = at;
     while i < text.len() {
-        if digit(text[i]) < 10 {
+        if digit_value(text[i]) < 10 {
             return i;
         }
         i += 1;
@@ -49,7 +48,7 @@ fn digit_from(text: &[u8], at: usize) -> usize {
     i
 }
 
-// A number with one digit more, by its rest by 2^32.
+// A number with one digit more, by its remainder by 2^32.
 fn appended(value: u32, last: u8) -> u32 {
     ((10 * (value as u64) + (last as u64)) % 4294967296) as u32
 }
@@ -59,7 +58,7 @@ pub(crate) fn number(text: &[u8], at: usize) -> Parsed {
     let mut value = 0;
     let mut i = digit_from(text, at);
     while i < text.len() {
-        let next = digit(text[i]);
+        let next = digit_value(text[i]);
         if 9 < next {
             return Parsed {
                 value: value,

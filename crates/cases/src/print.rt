@@ -3,6 +3,7 @@
 use book::Entry;
 use book::Reading;
 use book::Worn;
+use rank::Weighed;
 use refusal::Answer;
 use refusal::Outcome;
 use refusal::Refusal;
@@ -31,38 +32,46 @@ pub(crate) fn outcome(of: Outcome) {
 }
 
 // A status of 0 and one number.
-fn value(n: u32) {
+fn done_with(n: u32) {
     done();
     number(n as u64);
 }
 
 pub(crate) fn answer(of: Answer) {
     match of {
-        Answer::Value(n) => value(n),
+        Answer::Value(n) => done_with(n),
         Answer::Refused(why) => refused(why),
+    }
+}
+
+// A weight is printed as its rank.
+pub(crate) fn weighed(of: Weighed) {
+    match of {
+        Weighed::Weight(weight) => done_with(weight.rank),
+        Weighed::Refused(why) => refused(why),
     }
 }
 
 pub(crate) fn reading(of: Reading) {
     match of {
-        Reading::Strike(s) => {
+        Reading::Strike(s, damage) => {
             done();
             number(s.bell as u64);
             number(s.force as u64);
             number(s.delay as u64);
-            number(s.damage as u64);
+            number(damage.rank as u64);
         },
         Reading::Refused(why) => refused(why),
     }
 }
 
 // A tune's number and its count of cards.
-pub(crate) fn entry(of: Entry) {
+pub(crate) fn tune(of: Entry) {
     match of {
-        Entry::Tune(tune) => {
+        Entry::Tune(t) => {
             done();
-            number(tune.number as u64);
-            number(tune.cards as u64);
+            number(t.number as u64);
+            number(t.cards as u64);
         },
         Entry::Refused(why) => refused(why),
     }
@@ -71,8 +80,8 @@ pub(crate) fn entry(of: Entry) {
 // Card 0 says that no card is damaged.
 pub(crate) fn worn(of: Worn) {
     match of {
-        Worn::Card(n) => value(n),
-        Worn::Nothing => value(0),
+        Worn::Card(n) => done_with(n),
+        Worn::Nothing => done_with(0),
         Worn::Refused(why) => refused(why),
     }
 }

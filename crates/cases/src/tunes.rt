@@ -51,5 +51,5 @@ pub(crate) fn tune_at(line: &[u8], at: usize) {
     let mut bytes = io::buffer();
     let place = parse::number(line, at);
     let b = parse::bytes(line, place.at, &mut bytes);
-    print::entry(book::tune_at(&bytes[..b.count], place.value));
+    print::tune(book::tune_at(&bytes[..b.count], place.value));
 }

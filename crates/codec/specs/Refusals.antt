@@ -1,10 +1,8 @@
--- What holds once the tests of an operation are passed, and what an operation leaves where it refuses and where it is done. Assumes nothing.
--- Main: k-good, encode-passed, syndrome-passed, decode-passed, encoded-refused, encoded-done, tested-refused, tested-done, decoded-refused,
--- decoded-none, decoded-done.
+-- What holds once the tests of an operation are passed, and what an operation leaves where it refuses and where it is done.
+-- Main: k-good, tests-passed, encode-passed, syndrome-passed, encoded-refused, encoded-done, tested-refused, tested-done.
 use mathlib.Core.Path.{_≡_, refl, sym}
 use mathlib.Core.Bool.{Bool, true, false, _&&_, not}
 use mathlib.Core.List.{List}
-use mathlib.Core.Option.{none, some}
 use Prim.Native.Nat.{ℕ, _*_, _-_, _≤_}
 use native.Mathlib.Omega.{arith}
 use lib.Dec.{leb, eqb}
@@ -12,17 +10,12 @@ use lib.ListN.{length}
 use borrow.Author.Tests.{leb-true, eqb-true, eq-eqb, not-false}
 use Rattle.algebra.specs.Tests.{any-above, both}
 use Rattle.refusal.specs.declared.Refusal.{Refusal}
-use Rattle.refusal.specs.declared.Refusal.the-variants.{Undecodable}
 use Rattle.refusal.specs.declared.Outcome.{Outcome}
 use Rattle.refusal.specs.declared.Outcome.the-variants as outcomes
-use Rattle.refusal.specs.declared.Answer.the-variants as answers
-use Rattle.refusal.specs.Answers.{number, number-not-zero, outcome, answer}
-use Rattle.rank.specs.Definitions.{is-card, apart}
+use Rattle.refusal.specs.Replies.{outcome, unless-refused, unless-done, refused-number, no-refusal}
 use Rattle.coding.specs.Code.{word, is-message, test-values}
-use Rattle.coding.specs.Decode.{decode}
 use Rattle.coding.specs.Mu.{mu}
-use Rattle.codec.specs.Answers.{k-bad, tests, unless, encode-refusal, Encoded, syndrome-refusal, Tested}
-use Rattle.codec.specs.Answers.{undecodable, found, decode-tests, decode-refusal, decoded-word, Decoded}
+use Rattle.codec.specs.Operations.{k-bad, tests, encode-refusal, Encoded, syndrome-refusal, Tested}
 
 pub k-good : (k : ℕ) → k-bad k ≡ false → (1 ≤ k) × (k ≤ 5)
 unfolding k-bad
@@ -30,17 +23,17 @@ k-good k e =
     let t = both (leb 1 k) (leb k 5) (not-false (leb 1 k && leb k 5) e) in
     (leb-true 1 k (t .0), leb-true k 5 (t .1))
 
-tests-passed : (d l r : Bool) → tests d l r ≡ 0 → (d ≡ false) × (l ≡ false) × (r ≡ false)
+pub tests-passed : (d l r : Bool) → tests d l r ≡ 0 → (d ≡ false) × (l ≡ false) × (r ≡ false)
 unfolding tests
 tests-passed true l r e = absurd (omega arith)
 tests-passed false true r e = absurd (omega arith)
 tests-passed false false true e = absurd (omega arith)
 tests-passed false false false e = (refl, refl, refl)
 
-both-equal : (a b : ℕ) (t : Bool) → not (eqb a b && t) ≡ false → (a ≡ b) × (t ≡ true)
+pub both-equal : (a b : ℕ) (t : Bool) → not (eqb a b && t) ≡ false → (a ≡ b) × (t ≡ true)
 both-equal a b t e = let s = both (eqb a b) t (not-false (eqb a b && t) e) in (eqb-true a b (s .0), s .1)
 
-fits : (n l most : ℕ) (v : List ℕ) → n ≡ l → any-above most v ≡ false → (eqb n l && not (any-above most v)) ≡ true
+pub fits : (n l most : ℕ) (v : List ℕ) → n ≡ l → any-above most v ≡ false → (eqb n l && not (any-above most v)) ≡ true
 fits n l most v p r = rw (eq-eqb n l p, r)
 
 pub encode-passed : (k : ℕ) (m : List ℕ) (w : ℕ) → encode-refusal k m w ≡ 0 → (1 ≤ k) × (k ≤ 5) × (length m ≡ 2 * k) × (is-message k m ≡ true) × (w ≡ 6)
@@ -59,36 +52,11 @@ syndrome-passed k c v e =
     let (p, q) = both-equal (length c) 6 (eqb v (12 - 2 * k)) l in
     (f, g, p, eqb-true v (12 - 2 * k) q)
 
-pub decode-passed : (k : ℕ) (c : List ℕ) (w m : ℕ) → decode-tests k c w m ≡ 0
-    → (1 ≤ k) × (k ≤ 5) × (length c ≡ 6) × (is-card c ≡ true) × (w ≡ 6) × (m ≡ 2 * k)
-unfolding decode-tests is-card
-decode-passed k c w m e =
-    let (d, l, r) = tests-passed (k-bad k) _ (any-above 728 c) e in
-    let (f, g) = k-good k d in
-    let (p, q) = both-equal (length c) 6 (eqb w 6 && eqb m (2 * k)) l in
-    let (s, t) = both (eqb w 6) (eqb m (2 * k)) q in
-    (f, g, p, fits (length c) 6 728 c p r, eqb-true w 6 s, eqb-true m (2 * k) t)
-
--- THE LISTS afterwards
-unless-refused : (n : ℕ) (new old : List ℕ) → eqb n 0 ≡ false → old ≡ unless n new old
-unfolding unless
-unless-refused n new old e = rw e
-
-unless-done : (n : ℕ) (new old now : List ℕ) → n ≡ 0 → now ≡ new → now ≡ unless n new old
-unfolding unless
-unless-done n new old now e w = rw (e, w)
-
-refused : (n : ℕ) (r : Outcome) (x : Refusal) → outcome r ≡ n → r ≡ outcomes.Refused x → (number x ≡ n) × (eqb n 0 ≡ false)
-refused n r x e q = let s : number x ≡ n = rw q at e in (s, rw (← s) (number-not-zero x))
-
-pub no-refusal : (n : ℕ) (r : Outcome) → outcome r ≡ n → r ≡ outcomes.Done → n ≡ 0
-no-refusal n r e q = sym (rw q at e)
-
 -- ENCODE
 module _ (k : ℕ) (m w : List ℕ) (r : Outcome) (e : outcome r ≡ encode-refusal k m (length w)) where
   pub encoded-refused : (x : Refusal) → r ≡ outcomes.Refused x → Encoded k m w (outcomes.Refused x) w
   encoded-refused x q =
-      let (s, t) = refused _ r x e q in
+      let (s, t) = refused-number _ r x e q in
       record { answers = s; word-is = unless-refused (encode-refusal k m (length w)) (word k m) w t }
 
   pub encoded-done : r ≡ outcomes.Done → (v : List ℕ) → v ≡ word k m → Encoded k m w outcomes.Done v
@@ -98,32 +66,8 @@ module _ (k : ℕ) (m w : List ℕ) (r : Outcome) (e : outcome r ≡ encode-refu
 module _ (k : ℕ) (c v : List ℕ) (r : Outcome) (e : outcome r ≡ syndrome-refusal k c (length v)) where
   pub tested-refused : (x : Refusal) → r ≡ outcomes.Refused x → Tested k c v (outcomes.Refused x) v
   tested-refused x q =
-      let (s, t) = refused _ r x e q in
+      let (s, t) = refused-number _ r x e q in
       record { answers = s; values-are = unless-refused (syndrome-refusal k c (length v)) (test-values k (mu k) c) v t }
 
   pub tested-done : r ≡ outcomes.Done → (u : List ℕ) → u ≡ test-values k (mu k) c → Tested k c v outcomes.Done u
   tested-done q u h = let s = no-refusal _ r e q in record { answers = sym s; values-are = unless-done _ (test-values k (mu k) c) v u s h }
-
--- DECODE
-module _ (k : ℕ) (c w m : List ℕ) (r : Outcome) (e : outcome r ≡ decode-tests k c (length w) (length m)) where
-  pub decoded-refused : (x : Refusal) → r ≡ outcomes.Refused x → Decoded k c w m (answers.Refused x) w m
-  unfolding decode-refusal answer
-  decoded-refused x q =
-      let (s, t) = refused _ r x e q in
-      record {
-        answers = rw (t, t, ← s);
-        word-is = rw t (unless-refused (decode-tests k c (length w) (length m)) (decoded-word k c) w t);
-        message-is = rw t (unless-refused (decode-tests k c (length w) (length m)) (found (decode k c)) m t);
-      }
-
-  module _ (q : r ≡ outcomes.Done) where
-    passed : decode-tests k c (length w) (length m) ≡ 0
-    passed = no-refusal _ r e q
-
-    pub decoded-none : decode k c ≡ none → Decoded k c w m (answers.Refused Undecodable) w m
-    unfolding decode-refusal undecodable answer unless
-    decoded-none d = record { answers = rw (passed, d); word-is = rw (passed, d); message-is = rw (passed, d) }
-
-    pub decoded-done : (n v : List ℕ) (x : ℕ) → decode k c ≡ some n → v ≡ word k n → x ≡ apart v c → Decoded k c w m (answers.Value x) v n
-    unfolding decode-refusal undecodable found decoded-word answer unless
-    decoded-done n v x d h a = record { answers = rw (passed, d, a, h); word-is = rw (passed, d, h); message-is = rw (passed, d) }

@@ -1,25 +1,21 @@
 // Encoding (document 01: Press): the word of a message is the values of its polynomial at 1, z, .. z^5, a coefficient at a time. It is linear
-// in the digits of the message. Assumes nothing.
+// in the digits of the message.
 ghost use mathlib.Core.Path.{_≡_};
 ghost use mathlib.Core.Bool.{true};
-ghost use mathlib.Core.List.{[], _∷_};
-ghost use Prim.Native.Nat.{ℕ, _+_, _*_, _%_, _≤_, _<_};
-ghost use lib.ListN.{getD, take};
-ghost use Rattle.algebra.specs.Field.{digits};
+ghost use Prim.Native.Nat.{_+_, _*_, _-_, _≤_};
+ghost use lib.ListN.{take};
 ghost use Rattle.coding.specs.Code.{word, is-message};
-ghost use Rattle.coding.specs.Packed.{gather, rows};
-ghost use Rattle.coding.specs.Transforms.{«word-map», «number-at»};
-ghost use Rattle.codec.specs.Answers.{Encoded};
-use crate::lists::fill;
-use crate::lists::loaded;
-use crate::packed::gathered_high;
-use crate::packed::gathered_low;
-use crate::packed::settled;
-use crate::refusals::encode_tests;
+ghost use Rattle.transform.specs.Packed.{«Are-rows», «Of-rows», «add-small-rows»};
+ghost use Rattle.transform.specs.Counts.{counts};
+ghost use Rattle.transform.specs.Transforms.{«low-at», «high-at», «message-numbers», «word-map», «Small-numbers»};
+ghost use Rattle.codec.specs.Operations.{Encoded};
+use crate::packed::add_small_rows;
+use crate::packed::symbols_of;
+use crate::tests::encode_tests;
 use refusal::Outcome;
 
-// What each coefficient of a message's polynomial adds to the word: a row of packed digits for each digit of its two small numbers.
-const COEFFICIENT_0: [[u64; 4]; 6] = [
+// What the low number of each coefficient of a message's polynomial adds to the word: a row of packed digits for each of its digits.
+const LOW_0: [[u64; 4]; 3] = [
     [0x2000000000001, 0x800000000, 0x200000, 0x100000000000080],
     [
         0x102081020000002,
@@ -33,27 +29,9 @@ const COEFFICIENT_0: [[u64; 4]; 6] = [
         0x200040820208002,
         0x202080800408102,
     ],
-    [
-        0x100000000000080,
-        0x40000000000,
-        0x10000000,
-        0x2001010204000,
-    ],
-    [
-        0x202081020004082,
-        0x200081010408101,
-        0x104000010408082,
-        0x200040810204102,
-    ],
-    [
-        0x102040820000100,
-        0x104041000408080,
-        0x100081020408001,
-        0x102040810408082,
-    ],
 ];
 
-const COEFFICIENT_1: [[u64; 4]; 6] = [
+const LOW_1: [[u64; 4]; 3] = [
     [0x1, 0x2001010200001, 0x102000010004080, 0x200041020208082],
     [
         0x202081020000002,
@@ -67,22 +45,9 @@ const COEFFICIENT_1: [[u64; 4]; 6] = [
         0x41020400002,
         0x204040000208102,
     ],
-    [0x80, 0x100080810000080, 0x204080800204000, 0x80000404081],
-    [
-        0x202081020004082,
-        0x41000400082,
-        0x204041010408081,
-        0x202040820400002,
-    ],
-    [
-        0x200040820000100,
-        0x104040000208102,
-        0x100081010004082,
-        0x200000800408080,
-    ],
 ];
 
-const COEFFICIENT_2: [[u64; 4]; 6] = [
+const LOW_2: [[u64; 4]; 3] = [
     [
         0x102000000000001,
         0x200001000000080,
@@ -101,6 +66,63 @@ const COEFFICIENT_2: [[u64; 4]; 6] = [
         0x2080820200082,
         0x102040020400081,
     ],
+];
+
+const LOW_3: [[u64; 4]; 3] = [
+    [
+        0x4040000000001,
+        0x104081000208100,
+        0x1020400000,
+        0x202080000008001,
+    ],
+    [
+        0x204041020000002,
+        0x202000820408002,
+        0x104080000004102,
+        0x4041010004080,
+    ],
+    [
+        0x2080010400002,
+        0x41020004101,
+        0x100000810204001,
+        0x204081000008082,
+    ],
+];
+
+const LOW_4: [[u64; 4]; 3] = [
+    [0x1, 0x80820208102, 0x204081010008102, 0x40810404082],
+    [
+        0x104081020000002,
+        0x4081020000000,
+        0x100001020404002,
+        0x104001000208001,
+    ],
+    [
+        0x100040010400002,
+        0x2041020204081,
+        0x40000200002,
+        0x102080000200001,
+    ],
+];
+
+// What the high number of each adds.
+const HIGH_1: [[u64; 4]; 3] = [
+    [0x80, 0x100080810000080, 0x204080800204000, 0x80000404081],
+    [
+        0x202081020004082,
+        0x41000400082,
+        0x204041010408081,
+        0x202040820400002,
+    ],
+    [
+        0x200040820000100,
+        0x104040000208102,
+        0x100081010004082,
+        0x200000800408080,
+    ],
+];
+
+const HIGH_2: [[u64; 4]; 3] = [
     [
         0x100000000000080,
         0x4080820404001,
@@ -121,25 +143,7 @@ const COEFFICIENT_2: [[u64; 4]; 6] = [
     ],
 ];
 
-const COEFFICIENT_3: [[u64; 4]; 6] = [
-    [
-        0x4040000000001,
-        0x104081000208100,
-        0x1020400000,
-        0x202080000008001,
-    ],
-    [
-        0x204041020000002,
-        0x202000820408002,
-        0x104080000004102,
-        0x4041010004080,
-    ],
-    [
-        0x2080010400002,
-        0x41020004101,
-        0x100000810204001,
-        0x204081000008082,
-    ],
+const HIGH_3: [[u64; 4]; 3] = [
     [
         0x80000000080,
         0x200081020208100,
@@ -160,20 +164,7 @@ const COEFFICIENT_3: [[u64; 4]; 6] = [
     ],
 ];
 
-const COEFFICIENT_4: [[u64; 4]; 6] = [
-    [0x1, 0x80820208102, 0x204081010008102, 0x40810404082],
-    [
-        0x104081020000002,
-        0x4081020000000,
-        0x100001020404002,
-        0x104001000208001,
-    ],
-    [
-        0x100040010400002,
-        0x2041020204081,
-        0x40000200002,
-        0x102080000200001,
-    ],
+const HIGH_4: [[u64; 4]; 3] = [
     [
         0x104080000000080,
         0x4041010008080,
@@ -194,25 +185,7 @@ const COEFFICIENT_4: [[u64; 4]; 6] = [
     ],
 ];
 
-const COEFFICIENT_5: [[u64; 4]; 6] = [
-    [
-        0x204080000000001,
-        0x80800408080,
-        0x2080000000080,
-        0x4040020004102,
-    ],
-    [
-        0x100081020000002,
-        0x100080000208102,
-        0x102081020004082,
-        0x1020208081,
-    ],
-    [
-        0x80010400002,
-        0x102001010000001,
-        0x4000820000100,
-        0x102080010200080,
-    ],
+const HIGH_5: [[u64; 4]; 3] = [
     [
         0x2080000000080,
         0x4040020004102,
@@ -233,83 +206,53 @@ const COEFFICIENT_5: [[u64; 4]; 6] = [
     ],
 ];
 
-// The two small numbers of a coefficient.
-pub struct Pair {
-    pub low: u16,
-    pub high: u16,
-}
-
-// Those of coefficient s for k, from the numbers c and d at its places. The last has its high number only, and none comes after it.
-fn pair_at(s: usize, k: usize, c: u16, d: u16) -> Pair
-    requires { ⌜ (s ≤ k → c < 27) × (s < k → d < 27) ⌝ }
-    ensures { λ p. ⌜ (p .low + 27 * p .high ≡ number-at s k c d) × (p .low < 27) × (p .high < 27) ⌝ }
+// The low number of coefficient s more, after the numbers before it; there is none from the last coefficient on.
+fn add_low(a: [u64; 4], s: usize, k: usize, m: [u16; 10], r: [[u64; 4]; 3]) -> [u64; 4]
+    requires { ⌜ (1 ≤ s) × (s ≤ 4) × Of-rows (6 * s) a × Are-rows r × Small-numbers k m ⌝ }
+    ensures same { λ v. ⌜ v ≡ add-small-rows a (low-at s k m) r ⌝ }
+    ensures bound { λ v. ⌜ Of-rows (6 * s + 3) v ⌝ }
 {
-    if s < k {
-        Pair { low: c, high: d }
-    } else if s == k {
-        Pair { low: 0, high: c }
-    } else {
-        Pair { low: 0, high: 0 }
+    if k <= s {
+        return a;
     }
+    add_small_rows(a, 6 * s, m[2 * s - 1], r)
 }
 
-// The first coefficient has its low number only.
-fn with_0(x: u16) -> [u64; 4]
-    requires { ⌜ x < 27 ⌝ }
-    ensures same { λ r. ⌜ r ≡ gather (0 ∷ 0 ∷ 0 ∷ 0 ∷ []) (digits (x % 27)) (rows (word-map 0)) ⌝ }
-    ensures bound { λ r. ⌜ ((w : ℕ) → getD r w 0 ≤ 900000000000000000) ⌝ }
+// The high number of coefficient s: in the last coefficient, which has no low number, it stands in that one's place.
+fn high_of(s: usize, k: usize, m: [u16; 10]) -> u16
+    requires { ⌜ (1 ≤ s) × (s ≤ k) × (k ≤ 5) ⌝ }
+    ensures { λ x. ⌜ x ≡ high-at s k m ⌝ }
 {
-    gathered_low([0u64; 4], x, COEFFICIENT_0)
+    if s < k { m[2 * s] } else { m[2 * s - 1] }
 }
 
-fn with_1(a: [u64; 4], k: usize, c: u16, d: u16) -> [u64; 4]
-    requires { ⌜ ((w : ℕ) → getD a w 0 ≤ 9000000000000000000) × (1 ≤ k → c < 27) × (1 < k → d < 27) ⌝ }
-    ensures same { λ r. ⌜ r ≡ gather a (digits (number-at 1 k c d)) (rows (word-map 1)) ⌝ }
-    ensures bound { λ r. ⌜ ((w : ℕ) → getD r w 0 ≤ getD a w 0 + 1800000000000000000) ⌝ }
+// The high number of coefficient s more, after the numbers before it; there is none after the last coefficient.
+fn add_high(a: [u64; 4], s: usize, k: usize, m: [u16; 10], r: [[u64; 4]; 3]) -> [u64; 4]
+    requires { ⌜ (1 ≤ s) × (k ≤ 5) × Of-rows (6 * s - 3) a × Are-rows r × Small-numbers k m ⌝ }
+    ensures same { λ v. ⌜ v ≡ add-small-rows a (high-at s k m) r ⌝ }
+    ensures bound { λ v. ⌜ Of-rows (6 * s) v ⌝ }
 {
-    let p = pair_at(1, k, c, d);
-    let b = gathered_low(a, p.low, COEFFICIENT_1);
-    gathered_high(b, p.high, COEFFICIENT_1)
+    if k < s {
+        return a;
+    }
+    add_small_rows(a, 6 * s - 3, high_of(s, k, m), r)
 }
 
-fn with_2(a: [u64; 4], k: usize, c: u16, d: u16) -> [u64; 4]
-    requires { ⌜ ((w : ℕ) → getD a w 0 ≤ 9000000000000000000) × (2 ≤ k → c < 27) × (2 < k → d < 27) ⌝ }
-    ensures same { λ r. ⌜ r ≡ gather a (digits (number-at 2 k c d)) (rows (word-map 2)) ⌝ }
-    ensures bound { λ r. ⌜ ((w : ℕ) → getD r w 0 ≤ getD a w 0 + 1800000000000000000) ⌝ }
+// The counts of the word of a message.
+fn add_numbers(k: usize, m: [u16; 10]) -> [u64; 4]
+    requires { ⌜ (1 ≤ k) × (k ≤ 5) × Small-numbers k m ⌝ }
+    ensures { λ r. ⌜ r ≡ counts word-map (message-numbers k m) 10 ⌝ }
 {
-    let p = pair_at(2, k, c, d);
-    let b = gathered_low(a, p.low, COEFFICIENT_2);
-    gathered_high(b, p.high, COEFFICIENT_2)
-}
-
-fn with_3(a: [u64; 4], k: usize, c: u16, d: u16) -> [u64; 4]
-    requires { ⌜ ((w : ℕ) → getD a w 0 ≤ 9000000000000000000) × (3 ≤ k → c < 27) × (3 < k → d < 27) ⌝ }
-    ensures same { λ r. ⌜ r ≡ gather a (digits (number-at 3 k c d)) (rows (word-map 3)) ⌝ }
-    ensures bound { λ r. ⌜ ((w : ℕ) → getD r w 0 ≤ getD a w 0 + 1800000000000000000) ⌝ }
-{
-    let p = pair_at(3, k, c, d);
-    let b = gathered_low(a, p.low, COEFFICIENT_3);
-    gathered_high(b, p.high, COEFFICIENT_3)
-}
-
-fn with_4(a: [u64; 4], k: usize, c: u16, d: u16) -> [u64; 4]
-    requires { ⌜ ((w : ℕ) → getD a w 0 ≤ 9000000000000000000) × (4 ≤ k → c < 27) × (4 < k → d < 27) ⌝ }
-    ensures same { λ r. ⌜ r ≡ gather a (digits (number-at 4 k c d)) (rows (word-map 4)) ⌝ }
-    ensures bound { λ r. ⌜ ((w : ℕ) → getD r w 0 ≤ getD a w 0 + 1800000000000000000) ⌝ }
-{
-    let p = pair_at(4, k, c, d);
-    let b = gathered_low(a, p.low, COEFFICIENT_4);
-    gathered_high(b, p.high, COEFFICIENT_4)
-}
-
-fn with_5(a: [u64; 4], k: usize, c: u16, d: u16) -> [u64; 4]
-    requires { ⌜ ((w : ℕ) → getD a w 0 ≤ 9000000000000000000) × (5 ≤ k → c < 27) × (5 < k → d < 27) ⌝ }
-    ensures same { λ r. ⌜ r ≡ gather a (digits (number-at 5 k c d)) (rows (word-map 5)) ⌝ }
-    ensures bound { λ r. ⌜ ((w : ℕ) → getD r w 0 ≤ getD a w 0 + 1800000000000000000) ⌝ }
-{
-    let p = pair_at(5, k, c, d);
-    let b = gathered_low(a, p.low, COEFFICIENT_5);
-    gathered_high(b, p.high, COEFFICIENT_5)
+    let a = add_small_rows([0u64; 4], 0, m[0], LOW_0);
+    let b = add_high(a, 1, k, m, HIGH_1);
+    let c = add_low(b, 1, k, m, LOW_1);
+    let d = add_high(c, 2, k, m, HIGH_2);
+    let e = add_low(d, 2, k, m, LOW_2);
+    let f = add_high(e, 3, k, m, HIGH_3);
+    let g = add_low(f, 3, k, m, LOW_3);
+    let h = add_high(g, 4, k, m, HIGH_4);
+    let i = add_low(h, 4, k, m, LOW_4);
+    add_high(i, 5, k, m, HIGH_5)
 }
 
 // The word of the message that the first 2k numbers of m are.
@@ -317,16 +260,10 @@ pub fn word_of(k: usize, m: [u16; 10]) -> [u16; 6]
     requires { ⌜ (1 ≤ k) × (k ≤ 5) × (is-message k (take (2 * k) m) ≡ true) ⌝ }
     ensures { λ r. ⌜ r ≡ word k (take (2 * k) m) ⌝ }
 {
-    let s0 = with_0(m[0]);
-    let s1 = with_1(s0, k, m[1], m[2]);
-    let s2 = with_2(s1, k, m[3], m[4]);
-    let s3 = with_3(s2, k, m[5], m[6]);
-    let s4 = with_4(s3, k, m[7], m[8]);
-    let s5 = with_5(s4, k, m[9], 0);
-    settled(s5)
+    symbols_of(add_numbers(k, m))
 }
 
-// Document 01: Press. Fills the word of a message for k.
+// Fills the word of a message for k (document 01: Press).
 pub fn encode(k: u32, message: &[u16], word: &mut [u16]) -> Outcome
     ensures { λ r. ⌜ Encoded k (now (message .entry)) (now (word .entry)) r (now (word .exit)) ⌝ }
 {
@@ -334,7 +271,7 @@ pub fn encode(k: u32, message: &[u16], word: &mut [u16]) -> Outcome
     if let Outcome::Refused(why) = tested {
         return Outcome::Refused(why);
     }
-    let w = word_of(k as usize, loaded(message));
-    fill(word, &w);
+    let w = word_of(k as usize, lists::load(message));
+    lists::fill(word, &w);
     Outcome::Done
 }

@@ -1,15 +1,15 @@
 // Linear functions by packed digits: a u64 holds nine counts, in base 128, so that one product and one sum serve nine digits of a value. The
-// rests of the counts by 3 are taken once, at the end. Rows are given as constants, so that products with them need no table. Assumes nothing.
+// remainders of the counts by 3 are taken once, at the end. Rows are given as constants, so that products with them need no table.
 ghost use mathlib.Core.Path.{_≡_};
-ghost use mathlib.Core.Bool.{false};
-ghost use Prim.Native.Nat.{ℕ, _+_, _*_, _%_, _≤_, _<_};
+ghost use mathlib.Core.Bool.{true};
+ghost use Prim.Native.Nat.{_+_, _*_, _%_, _≤_, _<_};
 ghost use lib.ListN.{getD};
 ghost use Rattle.algebra.specs.Field.{digits};
-ghost use Rattle.coding.specs.Packed.{«rows-above», raise, thrice, «three-digits», gather, settle};
-ghost use Rattle.coding.specs.Rests.{rest, halves};
+ghost use Rattle.transform.specs.Packed.{bounded, «Is-row», «Are-rows», «Of-rows», «add-row», «add-three-rows», «add-rows», «small-digits», «add-small-rows», «symbols-of»};
+ghost use Rattle.transform.specs.Remainders.{remainders, halves};
 
 // The six digits of a number.
-pub(crate) fn digits(x: u16) -> [u64; 6]
+fn digits(x: u16) -> [u64; 6]
     ensures { λ r. ⌜ r ≡ digits x ⌝ }
 {
     let a = x as u64;
@@ -21,11 +21,22 @@ pub(crate) fn digits(x: u16) -> [u64; 6]
     [a - 3 * b, b - 3 * c, c - 3 * d, d - 3 * e, e - 3 * f, f % 3]
 }
 
-// A digit times a row more. A row has nine digits in each number, at most 2.
-fn raised(a: [u64; 4], d: u64, r: [u64; 4]) -> [u64; 4]
-    requires { ⌜ (d ≤ 2) × ((w : ℕ) → getD a w 0 ≤ 18000000000000000000) × ((w : ℕ) → getD r w 0 ≤ 150000000000000000) ⌝ }
-    ensures same { λ s. ⌜ s ≡ raise a d r ⌝ }
-    ensures bound { λ s. ⌜ ((w : ℕ) → getD s w 0 ≤ getD a w 0 + 300000000000000000) ⌝ }
+// The three digits of a small number.
+fn small_digits(x: u16) -> [u64; 3]
+    requires { ⌜ x < 27 ⌝ }
+    ensures { λ r. ⌜ r ≡ small-digits x ⌝ }
+{
+    let a = x as u64;
+    let b = a / 3;
+    let c = b / 3;
+    [a - 3 * b, b - 3 * c, c]
+}
+
+// A digit times a row more, after n rows. A number of a row is nine digits, so that there is room for 60 rows.
+fn add_row(a: [u64; 4], n: usize, d: u64, r: [u64; 4]) -> [u64; 4]
+    requires { ⌜ (n ≤ 59) × Of-rows n a × (d ≤ 2) × Is-row r ⌝ }
+    ensures same { λ s. ⌜ s ≡ add-row a d r ⌝ }
+    ensures bound { λ s. ⌜ Of-rows (n + 1) s ⌝ }
 {
     [
         a[0] + d * r[0],
@@ -35,60 +46,43 @@ fn raised(a: [u64; 4], d: u64, r: [u64; 4]) -> [u64; 4]
     ]
 }
 
-// Three digits times their rows more.
-fn raised_thrice(a: [u64; 4], d: [u64; 3], q: [u64; 4], r: [u64; 4], s: [u64; 4]) -> [u64; 4]
-    requires counts { ⌜ ((w : ℕ) → getD a w 0 ≤ 10000000000000000000) × ((t : ℕ) → getD d t 0 ≤ 2) ⌝ }
-    requires rows { ⌜ ((w : ℕ) → getD q w 0 ≤ 150000000000000000) × ((w : ℕ) → getD r w 0 ≤ 150000000000000000) × ((w : ℕ) → getD s w 0 ≤ 150000000000000000) ⌝ }
-    ensures same { λ v. ⌜ v ≡ thrice a d q r s ⌝ }
-    ensures bound { λ v. ⌜ ((w : ℕ) → getD v w 0 ≤ getD a w 0 + 900000000000000000) ⌝ }
+// Three digits times their rows more, after n rows.
+fn add_three_rows(
+    a: [u64; 4],
+    n: usize,
+    d: [u64; 3],
+    q: [u64; 4],
+    r: [u64; 4],
+    s: [u64; 4],
+) -> [u64; 4]
+    requires counts { ⌜ (n ≤ 57) × Of-rows n a × (bounded 2 d ≡ true) ⌝ }
+    requires rows { ⌜ Is-row q × Is-row r × Is-row s ⌝ }
+    ensures same { λ v. ⌜ v ≡ add-three-rows a d q r s ⌝ }
+    ensures bound { λ v. ⌜ Of-rows (n + 3) v ⌝ }
 {
-    let s0 = raised(a, d[0], q);
-    let s1 = raised(s0, d[1], r);
-    raised(s1, d[2], s)
+    let b = add_row(a, n, d[0], q);
+    let c = add_row(b, n + 1, d[1], r);
+    add_row(c, n + 2, d[2], s)
 }
 
-// Six digits times their rows more. Five numbers came before.
-pub(crate) fn gathered(a: [u64; 4], d: [u64; 6], r: [[u64; 4]; 6]) -> [u64; 4]
-    requires { ⌜ ((w : ℕ) → getD a w 0 ≤ 9000000000000000000) × ((t : ℕ) → getD d t 0 ≤ 2) × (rows-above 150000000000000000 r ≡ false) ⌝ }
-    ensures same { λ s. ⌜ s ≡ gather a d r ⌝ }
-    ensures bound { λ s. ⌜ ((w : ℕ) → getD s w 0 ≤ getD a w 0 + 1800000000000000000) ⌝ }
+// The six digits of symbol i of a card times their rows more, after those of the symbols before it.
+pub(crate) fn add_symbol(a: [u64; 4], c: &[u16; 6], i: usize, r: [[u64; 4]; 6]) -> [u64; 4]
+    requires { ⌜ (i ≤ 5) × Of-rows (6 * i) a × Are-rows r ⌝ }
+    ensures same { λ s. ⌜ s ≡ add-rows a (digits (getD (now (c .entry)) i 0)) r ⌝ }
+    ensures bound { λ s. ⌜ Of-rows (6 * i + 6) s ⌝ }
 {
-    let s = raised_thrice(a, [d[0], d[1], d[2]], r[0], r[1], r[2]);
-    raised_thrice(s, [d[3], d[4], d[5]], r[3], r[4], r[5])
+    let d = digits(c[i]);
+    let b = add_three_rows(a, 6 * i, [d[0], d[1], d[2]], r[0], r[1], r[2]);
+    add_three_rows(b, 6 * i + 3, [d[3], d[4], d[5]], r[3], r[4], r[5])
 }
 
-fn three_digits(x: u16) -> [u64; 3]
-    requires { ⌜ x < 27 ⌝ }
-    ensures { λ r. ⌜ r ≡ three-digits x ⌝ }
+// The three digits of a small number times their rows more, after n rows.
+pub(crate) fn add_small_rows(a: [u64; 4], n: usize, x: u16, r: [[u64; 4]; 3]) -> [u64; 4]
+    requires { ⌜ (n ≤ 57) × Of-rows n a × (x < 27) × Are-rows r ⌝ }
+    ensures same { λ s. ⌜ s ≡ add-small-rows a x r ⌝ }
+    ensures bound { λ s. ⌜ Of-rows (n + 3) s ⌝ }
 {
-    let a = x as u64;
-    let b = a / 3;
-    let c = b / 3;
-    [a - 3 * b, b - 3 * c, c]
-}
-
-// The digits of a number below 27 times the first three rows more. Of 0 there is nothing to add.
-pub(crate) fn gathered_low(a: [u64; 4], x: u16, r: [[u64; 4]; 6]) -> [u64; 4]
-    requires { ⌜ ((w : ℕ) → getD a w 0 ≤ 9000000000000000000) × (x < 27) × (rows-above 150000000000000000 r ≡ false) ⌝ }
-    ensures same { λ s. ⌜ s ≡ gather a (digits x) r ⌝ }
-    ensures bound { λ s. ⌜ ((w : ℕ) → getD s w 0 ≤ getD a w 0 + 900000000000000000) ⌝ }
-{
-    if x == 0 {
-        return a;
-    }
-    raised_thrice(a, three_digits(x), r[0], r[1], r[2])
-}
-
-// The same of 27 times the number: the last three rows.
-pub(crate) fn gathered_high(a: [u64; 4], x: u16, r: [[u64; 4]; 6]) -> [u64; 4]
-    requires { ⌜ ((w : ℕ) → getD a w 0 ≤ 10000000000000000000) × (x < 27) × (rows-above 150000000000000000 r ≡ false) ⌝ }
-    ensures same { λ s. ⌜ s ≡ gather a (digits (27 * x)) r ⌝ }
-    ensures bound { λ s. ⌜ ((w : ℕ) → getD s w 0 ≤ getD a w 0 + 900000000000000000) ⌝ }
-{
-    if x == 0 {
-        return a;
-    }
-    raised_thrice(a, three_digits(x), r[3], r[4], r[5])
+    add_three_rows(a, n, small_digits(x), r[0], r[1], r[2])
 }
 
 // 3, 7 and 15 at each of nine counts.
@@ -98,10 +92,10 @@ const SEVENS: u64 = 508374836677034887;
 
 const FIFTEENS: u64 = 1089374650022217615;
 
-// The rests by 3 of nine counts, in their places. The digits of a count in base 16 have its rest, added up, as 16 is 1 more than a multiple of 3;
-// then those in base 4. That is at most 7, and 3 z / 8, rounded down, is then z / 3.
-fn rests(v: u64) -> u64
-    ensures same { λ r. ⌜ r ≡ rest v ⌝ }
+// The remainders by 3 of nine counts, in their places. The digits of a count in base 16 have its remainder, added up, as 16 is 1 more than a
+// multiple of 3; then those in base 4. That is at most 7, and 3 z / 8, rounded down, is then z / 3.
+fn remainders(v: u64) -> u64
+    ensures same { λ r. ⌜ r ≡ remainders v ⌝ }
     ensures bound { λ r. ⌜ r ≤ 1000000000000000000 ⌝ }
 {
     let y = (v & FIFTEENS) + ((v / 16) & SEVENS);
@@ -113,7 +107,7 @@ fn rests(v: u64) -> u64
 fn halves(v: u64) -> u64
     ensures { λ r. ⌜ r ≡ halves v ⌝ }
 {
-    let r = rests(v);
+    let r = remainders(v);
     r + 3 * (r / 128) + 9 * (r / 16384)
 }
 
@@ -125,8 +119,8 @@ fn symbol(v: u64, w: u64) -> u16
 }
 
 // The six symbols that the counts stand for.
-pub(crate) fn settled(a: [u64; 4]) -> [u16; 6]
-    ensures { λ r. ⌜ r ≡ settle a ⌝ }
+pub(crate) fn symbols_of(a: [u64; 4]) -> [u16; 6]
+    ensures { λ r. ⌜ r ≡ symbols-of a ⌝ }
 {
     let p = halves(a[0]);
     let q = halves(a[1]);

@@ -1,11 +1,10 @@
 // The test values of a card by packed digits, two to a number: slot j for k has the values at places 8 - 2j and 9 - 2j of ten. They are linear in
-// the card's digits; each k has its own rows, and those of slots that it has not are 0. Assumes nothing.
+// the card's digits; each k has its own rows, and those of slots that it has not are 0.
 ghost use mathlib.Core.Path.{_≡_};
 ghost use Rattle.algebra.specs.Lists.{table};
-ghost use Rattle.coding.specs.Slots.{slot};
-use crate::packed::digits;
-use crate::packed::gathered;
-use crate::packed::settled;
+ghost use Rattle.transform.specs.Slots.{slot};
+use crate::packed::add_symbol;
+use crate::packed::symbols_of;
 
 // What each symbol of a card adds for k = 1: a row of packed digits for each of its digits.
 const VALUES_1_0: [[u64; 4]; 6] = [
@@ -150,13 +149,14 @@ const VALUES_1_5: [[u64; 4]; 6] = [
 pub(crate) fn slots_1(c: [u16; 6]) -> [u16; 6]
     ensures { λ r. ⌜ r ≡ table 6 (slot 1 c) ⌝ }
 {
-    let s0 = gathered([0u64; 4], digits(c[0]), VALUES_1_0);
-    let s1 = gathered(s0, digits(c[1]), VALUES_1_1);
-    let s2 = gathered(s1, digits(c[2]), VALUES_1_2);
-    let s3 = gathered(s2, digits(c[3]), VALUES_1_3);
-    let s4 = gathered(s3, digits(c[4]), VALUES_1_4);
-    let s5 = gathered(s4, digits(c[5]), VALUES_1_5);
-    settled(s5)
+    let card = &c;
+    let s0 = add_symbol([0u64; 4], card, 0, VALUES_1_0);
+    let s1 = add_symbol(s0, card, 1, VALUES_1_1);
+    let s2 = add_symbol(s1, card, 2, VALUES_1_2);
+    let s3 = add_symbol(s2, card, 3, VALUES_1_3);
+    let s4 = add_symbol(s3, card, 4, VALUES_1_4);
+    let s5 = add_symbol(s4, card, 5, VALUES_1_5);
+    symbols_of(s5)
 }
 
 // What each symbol of a card adds for k = 2: a row of packed digits for each of its digits.
@@ -217,13 +217,14 @@ const VALUES_2_5: [[u64; 4]; 6] = [
 pub(crate) fn slots_2(c: [u16; 6]) -> [u16; 6]
     ensures { λ r. ⌜ r ≡ table 6 (slot 2 c) ⌝ }
 {
-    let s0 = gathered([0u64; 4], digits(c[0]), VALUES_2_0);
-    let s1 = gathered(s0, digits(c[1]), VALUES_2_1);
-    let s2 = gathered(s1, digits(c[2]), VALUES_2_2);
-    let s3 = gathered(s2, digits(c[3]), VALUES_2_3);
-    let s4 = gathered(s3, digits(c[4]), VALUES_2_4);
-    let s5 = gathered(s4, digits(c[5]), VALUES_2_5);
-    settled(s5)
+    let card = &c;
+    let s0 = add_symbol([0u64; 4], card, 0, VALUES_2_0);
+    let s1 = add_symbol(s0, card, 1, VALUES_2_1);
+    let s2 = add_symbol(s1, card, 2, VALUES_2_2);
+    let s3 = add_symbol(s2, card, 3, VALUES_2_3);
+    let s4 = add_symbol(s3, card, 4, VALUES_2_4);
+    let s5 = add_symbol(s4, card, 5, VALUES_2_5);
+    symbols_of(s5)
 }
 
 // What each symbol of a card adds for k = 3: a row of packed digits for each of its digits.
@@ -284,13 +285,14 @@ const VALUES_3_5: [[u64; 4]; 6] = [
 pub(crate) fn slots_3(c: [u16; 6]) -> [u16; 6]
     ensures { λ r. ⌜ r ≡ table 6 (slot 3 c) ⌝ }
 {
-    let s0 = gathered([0u64; 4], digits(c[0]), VALUES_3_0);
-    let s1 = gathered(s0, digits(c[1]), VALUES_3_1);
-    let s2 = gathered(s1, digits(c[2]), VALUES_3_2);
-    let s3 = gathered(s2, digits(c[3]), VALUES_3_3);
-    let s4 = gathered(s3, digits(c[4]), VALUES_3_4);
-    let s5 = gathered(s4, digits(c[5]), VALUES_3_5);
-    settled(s5)
+    let card = &c;
+    let s0 = add_symbol([0u64; 4], card, 0, VALUES_3_0);
+    let s1 = add_symbol(s0, card, 1, VALUES_3_1);
+    let s2 = add_symbol(s1, card, 2, VALUES_3_2);
+    let s3 = add_symbol(s2, card, 3, VALUES_3_3);
+    let s4 = add_symbol(s3, card, 4, VALUES_3_4);
+    let s5 = add_symbol(s4, card, 5, VALUES_3_5);
+    symbols_of(s5)
 }
 
 // What each symbol of a card adds for k = 4: a row of packed digits for each of its digits.
@@ -351,13 +353,14 @@ const VALUES_4_5: [[u64; 4]; 6] = [
 pub(crate) fn slots_4(c: [u16; 6]) -> [u16; 6]
     ensures { λ r. ⌜ r ≡ table 6 (slot 4 c) ⌝ }
 {
-    let s0 = gathered([0u64; 4], digits(c[0]), VALUES_4_0);
-    let s1 = gathered(s0, digits(c[1]), VALUES_4_1);
-    let s2 = gathered(s1, digits(c[2]), VALUES_4_2);
-    let s3 = gathered(s2, digits(c[3]), VALUES_4_3);
-    let s4 = gathered(s3, digits(c[4]), VALUES_4_4);
-    let s5 = gathered(s4, digits(c[5]), VALUES_4_5);
-    settled(s5)
+    let card = &c;
+    let s0 = add_symbol([0u64; 4], card, 0, VALUES_4_0);
+    let s1 = add_symbol(s0, card, 1, VALUES_4_1);
+    let s2 = add_symbol(s1, card, 2, VALUES_4_2);
+    let s3 = add_symbol(s2, card, 3, VALUES_4_3);
+    let s4 = add_symbol(s3, card, 4, VALUES_4_4);
+    let s5 = add_symbol(s4, card, 5, VALUES_4_5);
+    symbols_of(s5)
 }
 
 // What each symbol of a card adds for k = 5: a row of packed digits for each of its digits.
@@ -418,11 +421,12 @@ const VALUES_5_5: [[u64; 4]; 6] = [
 pub(crate) fn slots_5(c: [u16; 6]) -> [u16; 6]
     ensures { λ r. ⌜ r ≡ table 6 (slot 5 c) ⌝ }
 {
-    let s0 = gathered([0u64; 4], digits(c[0]), VALUES_5_0);
-    let s1 = gathered(s0, digits(c[1]), VALUES_5_1);
-    let s2 = gathered(s1, digits(c[2]), VALUES_5_2);
-    let s3 = gathered(s2, digits(c[3]), VALUES_5_3);
-    let s4 = gathered(s3, digits(c[4]), VALUES_5_4);
-    let s5 = gathered(s4, digits(c[5]), VALUES_5_5);
-    settled(s5)
+    let card = &c;
+    let s0 = add_symbol([0u64; 4], card, 0, VALUES_5_0);
+    let s1 = add_symbol(s0, card, 1, VALUES_5_1);
+    let s2 = add_symbol(s1, card, 2, VALUES_5_2);
+    let s3 = add_symbol(s2, card, 3, VALUES_5_3);
+    let s4 = add_symbol(s3, card, 4, VALUES_5_4);
+    let s5 = add_symbol(s4, card, 5, VALUES_5_5);
+    symbols_of(s5)
 }

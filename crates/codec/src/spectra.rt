@@ -1,11 +1,10 @@
 // The spectrum of a card: the coefficients of the polynomial that takes its symbols at 1, z, .. z^5. It is linear in the card's
-// digits. Assumes nothing.
+// digits.
 ghost use mathlib.Core.Path.{_≡_};
 ghost use Rattle.algebra.specs.Lists.{table};
 ghost use Rattle.coding.specs.Spectrum.{spectrum};
-use crate::packed::digits;
-use crate::packed::gathered;
-use crate::packed::settled;
+use crate::packed::add_symbol;
+use crate::packed::symbols_of;
 
 // What each symbol of a card adds to the spectrum: a row of packed digits for each of its digits.
 const SYMBOL_0: [[u64; 4]; 6] = [
@@ -245,11 +244,12 @@ const SYMBOL_5: [[u64; 4]; 6] = [
 pub fn spectrum(c: [u16; 6]) -> [u16; 6]
     ensures { λ r. ⌜ r ≡ table 6 (spectrum c) ⌝ }
 {
-    let s0 = gathered([0u64; 4], digits(c[0]), SYMBOL_0);
-    let s1 = gathered(s0, digits(c[1]), SYMBOL_1);
-    let s2 = gathered(s1, digits(c[2]), SYMBOL_2);
-    let s3 = gathered(s2, digits(c[3]), SYMBOL_3);
-    let s4 = gathered(s3, digits(c[4]), SYMBOL_4);
-    let s5 = gathered(s4, digits(c[5]), SYMBOL_5);
-    settled(s5)
+    let card = &c;
+    let s0 = add_symbol([0u64; 4], card, 0, SYMBOL_0);
+    let s1 = add_symbol(s0, card, 1, SYMBOL_1);
+    let s2 = add_symbol(s1, card, 2, SYMBOL_2);
+    let s3 = add_symbol(s2, card, 3, SYMBOL_3);
+    let s4 = add_symbol(s3, card, 4, SYMBOL_4);
+    let s5 = add_symbol(s4, card, 5, SYMBOL_5);
+    symbols_of(s5)
 }

@@ -1,20 +1,18 @@
-// The test values of a card (document 01: Test): traces of its spectrum times constants, as small numbers, by packed digits. Assumes
-// nothing.
+// The test values of a card (document 01: Test): traces of its spectrum times constants, as small numbers, by packed digits.
 ghost use mathlib.Core.Path.{_≡_};
 ghost use Prim.Native.Nat.{_*_, _-_, _≤_};
 ghost use lib.ListN.{length, drop};
 ghost use Rattle.algebra.specs.Lists.{table};
 ghost use Rattle.coding.specs.Code.{test-values};
 ghost use Rattle.coding.specs.Mu.{mu};
-ghost use Rattle.coding.specs.Slots.{slot};
-ghost use Rattle.codec.specs.Answers.{Tested};
-use crate::lists::fill;
-use crate::refusals::syndrome_tests;
+ghost use Rattle.transform.specs.Slots.{slot};
+ghost use Rattle.codec.specs.Operations.{Tested};
 use crate::slots::slots_1;
 use crate::slots::slots_2;
 use crate::slots::slots_3;
 use crate::slots::slots_4;
 use crate::slots::slots_5;
+use crate::tests::syndrome_tests;
 use refusal::Outcome;
 
 // The slots of a card for k.
@@ -64,7 +62,7 @@ fn values_list(k: usize, card: &[u16]) -> [u16; 10]
     values_of(k, c)
 }
 
-// Document 01: Test. Fills the test values of a card for k; they are all 0 exactly for words.
+// Fills the test values of a card for k; they are all 0 exactly for words (document 01: Test).
 pub fn syndrome(k: u32, card: &[u16], values: &mut [u16]) -> Outcome
     ensures { λ r. ⌜ Tested k (now (card .entry)) (now (values .entry)) r (now (values .exit)) ⌝ }
 {
@@ -74,6 +72,6 @@ pub fn syndrome(k: u32, card: &[u16], values: &mut [u16]) -> Outcome
     }
     let v = values_list(k as usize, card);
     let from = 2 * (k as usize) - 2;
-    fill(values, &v[from..]);
+    lists::fill(values, &v[from..]);
     Outcome::Done
 }

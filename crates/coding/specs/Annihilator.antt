@@ -1,5 +1,5 @@
 -- Errors of rank at most 2: the values of their polynomial are zeros of one polynomial y⁹ + L1 y³ + L0 y with L0 not 0, so its six
--- coefficients satisfy six equations. Assumes nothing.
+-- coefficients satisfy six equations.
 -- Main: Annihilated, annihilated, near-annihilated.
 use mathlib.Core.Path.{_≡_, refl, sym, ap, _∙_, fun-ext}
 use mathlib.Core.Bool.{true}
@@ -28,7 +28,7 @@ use Rattle.coding.specs.Errors.{errors, near-rank}
 unfoldable annihilator : (L1 L0 y : ℕ) → ℕ
 annihilator L1 L0 y = add (cube (cube y)) (add (times L1 (cube y)) (times L0 y))
 
-cube-add : (a b : ℕ) → cube (add a b) ≡ add (cube a) (cube b)
+pub cube-add : (a b : ℕ) → cube (add a b) ≡ add (cube a) (cube b)
 cube-add = cube-linear .sum
 
 factored : (A B y : ℕ) → lower B (lower A y) ≡ annihilator (minus 0 (add (cube A) B)) (times A B) y
@@ -83,7 +83,7 @@ steps (p ∷ q ∷ []) h i =
 steps (p ∷ q ∷ r ∷ ps) h i = absurd (omega arith)
 
 -- THE CUBE OF A POLYNOMIAL'S VALUE: its coefficients are cubed and move on by one, the last to the first place
-cube-six : (y : ℕ) → cube (cube (cube (cube (cube (cube y))))) ≡ y % 729
+pub cube-six : (y : ℕ) → cube (cube (cube (cube (cube (cube y))))) ≡ y % 729
 unfolding risen
 cube-six y = risen-six y
 

@@ -1,5 +1,5 @@
 -- Words are far apart: messages whose words are near are equal, as interpolation through points where the words agree comes to a state that
--- knows both. Assumes nothing.
+-- knows both.
 -- Main: error, error-rank, same-message.
 use mathlib.Core.Path.{_≡_, sym, ap, _∙_}
 use mathlib.Core.Bool.{true}

@@ -1,5 +1,5 @@
--- Cards as linear functions: a card's function is the combination of its symbols, and it has them as values at 1, z, .. z^5. Assumes nothing.
--- Main: card-table, table-card, card-images, combine-blend, blend-card.
+-- Cards as linear functions: a card's function is the combination of its symbols, and it has them as values at 1, z, .. z^5.
+-- Main: card-table, card-images, combine-blend, blend-card.
 use mathlib.Core.Path.{_≡_, refl, sym, ap, ap₂, _∙_}
 use mathlib.Core.Bool.{true}
 use mathlib.Core.List.{List, [], _∷_}
@@ -29,13 +29,6 @@ unfolding is-card at
 card-table c e f h =
     let (len, below) = passed 6 728 c e in
     table-same 6 f (at c) (λ s l. h s l ∙ at-whole c below s) ∙ rw (← len) (table-at c)
-
-pub table-card : (f : ℕ → ℕ) → ((i : ℕ) → f i % 729 ≡ f i) → is-card (table 6 f) ≡ true
-unfolding is-card table
-table-card f h = passes 6 728 (table 6 f) refl (below 0, (below 1, (below 2, (below 3, (below 4, (below 5, tt))))))
-  where
-    below : (i : ℕ) → f i < 729
-    below i = omega (arith, h i)
 
 -- A CARD is the values of its function at the basis
 picked : (f : ℕ → ℕ) → images (combination (table 6 f)) ≡ table 6 (λ s. f s % 729)

@@ -1,6 +1,6 @@
 -- Cards without damage: a test of the spectrum tells whether a card is a word, and then its message is read off. For k = 5, where no damage can
--- be undone, that is all of decoding. Assumes nothing.
--- Main: word-decode, none-from, shaped, shaped-parts, message-shaped, shaped-decode, shaped-is-word, unshaped-five.
+-- be undone, that is all of decoding.
+-- Main: word-decode, none-from, shaped, message-shaped, shaped-is-word, unshaped-five.
 use mathlib.Core.Path.{_≡_, refl, sym, ap, _∙_}
 use mathlib.Core.Bool.{Bool, true, false, true≢false, _&&_}
 use mathlib.Core.List.{List}
@@ -20,7 +20,7 @@ use Rattle.rank.specs.Distance.{apart-self, apart-zero}
 use Rattle.coding.specs.Code.{word, is-message, radius}
 use Rattle.coding.specs.Coefficients.{coefficients, length-coefficients, word-card}
 use Rattle.coding.specs.Spectrum.{spectrum}
-use Rattle.coding.specs.WordSpectrum.{Shape, message-of, at-last, word-spectrum, is-message-of, shaped-word}
+use Rattle.coding.specs.WordSpectrum.{Shape, message-of, at-last, word-spectrum, shaped-word}
 use Rattle.coding.specs.Decode.{decode}
 use Rattle.coding.specs.Proved.{decoded, decode-none}
 
@@ -34,7 +34,7 @@ none-from zero i r = true
 none-from (suc n) i r = eqb (r i) 0 && none-from n (suc i) r
 
 unfoldable pub shaped : (k : ℕ) → (r : ℕ → ℕ) → Bool
-shaped k r = eqb (high (r 0)) 0 && (eqb (low (r k)) 0 && none-from (5 - k) (suc k) r)
+shaped k r = none-from (5 - k) (suc k) r && (eqb (high (r 0)) 0 && eqb (low (r k)) 0)
 
 none-at : (n i : ℕ) (r : ℕ → ℕ) → none-from n i r ≡ true → (j : ℕ) → i ≤ j → j < i + n → r j ≡ 0
 unfolding none-from
@@ -48,12 +48,12 @@ unfolding none-from
 none-all zero i r h = refl
 none-all (suc n) i r h = rw (eq-eqb (r i) 0 (h i (omega arith) (omega arith)), none-all n (suc i) r (λ j p q. h j (omega arith) (omega arith)))
 
--- what the test tells of coefficients, and that those of a message pass
-pub shaped-parts : (k : ℕ) (r : ℕ → ℕ) → shaped k r ≡ true → (high (r 0) ≡ 0) × (low (r k) ≡ 0) × ((i : ℕ) → k < i → i < 6 → r i ≡ 0)
+-- what coefficients that pass are, and that those of a message pass
+shaped-parts : (k : ℕ) (r : ℕ → ℕ) → shaped k r ≡ true → (high (r 0) ≡ 0) × (low (r k) ≡ 0) × ((i : ℕ) → k < i → i < 6 → r i ≡ 0)
 unfolding shaped
 shaped-parts k r h =
-    let (a, t) = both (eqb (high (r 0)) 0) _ h in
-    let (b, n) = both (eqb (low (r k)) 0) _ t in
+    let (n, t) = both (none-from (5 - k) (suc k) r) _ h in
+    let (a, b) = both (eqb (high (r 0)) 0) _ t in
     (eqb-true (high (r 0)) 0 a, eqb-true (low (r k)) 0 b, λ i l u. none-at (5 - k) (suc k) r n i l (omega arith))
 
 pub message-shaped : (k : ℕ) → 1 ≤ k → k ≤ 5 → (m : List ℕ) (r : ℕ → ℕ) → ((i : ℕ) → i < 6 → r i ≡ at (coefficients k m) i) → shaped k r ≡ true
@@ -73,9 +73,6 @@ module _ (k : ℕ) (p : 1 ≤ k) (q : k ≤ 5) (c : List ℕ) (card : is-card c 
   -- A CARD THAT PASSES is the word of the message read off it
   pub shaped-is-word : word k (message-of k c) ≡ c
   shaped-is-word = shaped-word k p q c card shape
-
-  pub shaped-decode : decode k c ≡ some (message-of k c)
-  shaped-decode = word-decode k p q c card (message-of k c) (is-message-of k p q c) shaped-is-word
 
 -- A CARD THAT DOES NOT is none: for k = 5, where the radius is 0, none is near
 pub unshaped-five : (c : List ℕ) → is-card c ≡ true → shaped 5 (spectrum c) ≡ false → decode 5 c ≡ none

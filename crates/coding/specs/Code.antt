@@ -1,5 +1,4 @@
--- The code (document 01: Code): messages, their polynomials and words, the radius, what lies near a card, the test values. Assumes nothing:
--- these are definitions, those of document 03.
+-- The code (SPECIFICATION 2 to 4): messages, their polynomials and words, the radius, what lies near a card, the test values.
 use mathlib.Core.Path.{_≡_}
 use mathlib.Core.Bool.{Bool, true, _&&_, not}
 use mathlib.Core.List.{List, [], _∷_, _++_}
@@ -66,7 +65,7 @@ P i mu r = P-from 6 0 i mu r
 unfoldable pub trace : ℕ → ℕ
 trace v = add v (risen 3 v)
 
--- the test values: traces as small numbers, in the order of document 01
+-- the test values: traces as small numbers, in the order of SPECIFICATION 4.3
 unfoldable pub pairs-from : (left i : ℕ) → (mu r : List ℕ) → List ℕ
 pairs-from zero i mu r = []
 pairs-from (suc n) i mu r =

@@ -1,5 +1,5 @@
 -- The coefficients of a message: its polynomial is that of a list of k + 1 symbols, its word is that polynomial's values at the basis, and
--- the message is read off the list again. Assumes nothing.
+-- the message is read off the list again.
 -- Main: value-ev, word-images, word-card, read-coefficients, coefficients-read, is-message-read.
 use mathlib.Core.Path.{_≡_, refl, ap, _∙_, fun-ext}
 use mathlib.Core.Bool.{true}

@@ -1,6 +1,5 @@
--- What mending answers: decode is the first message near a card, among all. It says what the answer is, and is never computed. Assumes
--- nothing.
--- Main: decode, Answers, decode-answers, proposal-answers, first-answers, proposals-answer, near-answer, same-answer.
+-- What mending answers: decode is the first message near a card, among all. It says what the answer is, and is never computed.
+-- Main: decode, Answers, decode-answers, proposal-answers, tested-answers, first-answers, proposals-answer, near-answer, same-answer.
 use mathlib.Core.Path.{_≡_, refl, sym, ap}
 use mathlib.Core.Bool.{Bool, true, false, _&&_, cond}
 use mathlib.Core.List.{List, [], _∷_}
@@ -43,12 +42,12 @@ find (suc n) f = first-of 27 (λ x. find n (λ m. f (x ∷ m)))
 unfoldable pub decode : (k : ℕ) → (card : List ℕ) → Option (List ℕ)
 decode k c = find (2 * k) (if-near k c)
 
-find-good : (P : List ℕ → Type 0) (n : ℕ) (f : List ℕ → Option (List ℕ)) → ((m : List ℕ) → Good P (f m)) → Good P (find n f)
+pub find-good : (P : List ℕ → Type 0) (n : ℕ) (f : List ℕ → Option (List ℕ)) → ((m : List ℕ) → Good P (f m)) → Good P (find n f)
 unfolding find
 find-good P zero f h = h []
 find-good P (suc n) f h = good-first P 27 _ (λ x. find-good P n _ (λ m. h (x ∷ m)))
 
-find-got : (n : ℕ) (f : List ℕ → Option (List ℕ)) (m : List ℕ) → length m ≡ n → All (λ x. x < 27) m → Got (f m) → Got (find n f)
+pub find-got : (n : ℕ) (f : List ℕ → Option (List ℕ)) (m : List ℕ) → length m ≡ n → All (λ x. x < 27) m → Got (f m) → Got (find n f)
 unfolding find
 find-got zero f [] l h g = g
 find-got zero f (x ∷ m) l h g = absurd (omega arith)
@@ -67,9 +66,16 @@ decode-answers k c = record {
   all = λ m h. let t = passed (2 * k) 26 m (h .message) in find-got (2 * k) (if-near k c) m (t .0) (t .1) (if-near-got k c m h);
 }
 
--- one proposal held to the card is an answer, if it is every message near the card
+-- one proposal checked against the card is an answer, if it is every message near the card
 pub proposal-answers : (k : ℕ) (c m : List ℕ) → ((w : List ℕ) → Near k c w → m ≡ w) → Answers k c (if-near k c m)
 proposal-answers k c m h = record { right = if-near-good k c m; all = λ w near. rw (h w near) (if-near-got k c w near) }
+
+-- and so is one that is tested first, if it is every message near the card and these pass the test
+pub tested-answers : (k : ℕ) (c m : List ℕ) (test : Bool) → ((w : List ℕ) → Near k c w → (test ≡ true) × (m ≡ w)) → Answers k c (cond test (if-near k c m) none)
+tested-answers k c m test h = record {
+  right = good-if (Near k c) (if-near k c m) test (if-near-good k c m);
+  all = λ w near. let (t, e) = h w near in got-if (if-near k c m) test t (rw e (if-near-got k c w near));
+}
 
 -- and so is the first answer for n numbers, each right, if every message near the card has a number with an answer
 pub first-answers : (k : ℕ) (c : List ℕ) (n : ℕ) (f : ℕ → Option (List ℕ)) (number : List ℕ → ℕ) → ((a : ℕ) → Good (Near k c) (f a))

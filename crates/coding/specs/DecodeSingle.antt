@@ -1,5 +1,5 @@
--- Decoding for k = 3 and k = 4, where the error has rank 1 or none: for k = 3 the card's spectrum gives the message, for k = 4 it does for each
--- last number that a message can have. Assumes nothing.
+-- Decoding for k = 3 and 4, where the error has rank at most 1: for k = 3 the card's spectrum gives its last two coefficients, for k = 4 it does
+-- for each last number that a message can have.
 -- Main: decode-three, three-is-decode, last-error, attempt-four, decode-four, four-is-decode.
 use mathlib.Core.Path.{_≡_, refl, sym}
 use mathlib.Core.Bool.{true}
@@ -15,36 +15,36 @@ use Rattle.rank.specs.Definitions.{at, is-card}
 use Rattle.coding.specs.Code.{is-message, radius, Near}
 use Rattle.coding.specs.Coefficients.{inners, higher, coefficients}
 use Rattle.coding.specs.Options.{first-of}
-use Rattle.coding.specs.Decode.{decode, first-answers}
+use Rattle.coding.specs.Decode.{decode, proposals-answer}
 use Rattle.coding.specs.Spectrum.{spectrum}
 use Rattle.coding.specs.Errors.{errors, near-rank, errors-beyond}
 use Rattle.coding.specs.RankOne.{Ratio, ratio}
-use Rattle.coding.specs.Closed.{if-closed, if-closed-good, if-closed-got, closed-answers}
+use Rattle.coding.specs.Residual.{rank-one-fits, rank-one-message, if-rank-one, near-fits, near-message, rank-one-answers}
 use Rattle.coding.specs.Proved.{answered}
 
--- THE ERROR has rank 1 or none
-near-ratio : (k : ℕ) → 3 ≤ k → k ≤ 4 → (c : List ℕ) → is-card c ≡ true → (m : List ℕ) → Near k c m → Ratio (errors k c m)
+-- THE ERROR has rank at most 1
+few-ratio : (k : ℕ) → 3 ≤ k → k ≤ 4 → (c : List ℕ) → is-card c ≡ true → (m : List ℕ) → Near k c m → Ratio (errors k c m)
 unfolding radius
-near-ratio k p q c card m near = ratio (errors k c m) (omega (arith, near-rank k (omega arith) (omega arith) c card m near))
+few-ratio k p q c card m near = ratio (errors k c m) (omega (arith, near-rank k (omega arith) (omega arith) c card m near))
 
 -- k = 3
 unfoldable pub decode-three : (card : List ℕ) → Option (List ℕ)
-decode-three c = if-closed 3 (spectrum c) (spectrum c 4)
+decode-three c = if-rank-one 3 c (spectrum c 4)
 
 pub three-is-decode : (c : List ℕ) → is-card c ≡ true → decode-three c ≡ decode 3 c
 unfolding decode-three
-three-is-decode c card = answered 3 (lit≤ tt) (lit≤ tt) c card _ (closed-answers 3 (lit≤ tt) (lit≤ tt) c card (spectrum c 4) (λ m near.
-    (near-ratio 3 (lit≤ tt) (lit≤ tt) c card m near, sym (errors-beyond 3 (lit≤ tt) (lit≤ tt) c card m 4 (lit< tt)))))
+three-is-decode c card = answered 3 (lit≤ tt) (lit≤ tt) c card _ (rank-one-answers 3 (lit≤ tt) (lit≤ tt) c card (spectrum c 4) (λ m near.
+    (few-ratio 3 (lit≤ tt) (lit≤ tt) c card m near, sym (errors-beyond 3 (lit≤ tt) (lit≤ tt) c card m 4 (lit< tt)))))
 
 -- k = 4: an attempt with a last number
 unfoldable pub last-error : (r : ℕ → ℕ) → (d : ℕ) → ℕ
 last-error r d = minus (r 4) (times gamma (small d))
 
-unfoldable pub attempt-four : (r : ℕ → ℕ) → (d : ℕ) → Option (List ℕ)
-attempt-four r d = if-closed 4 r (last-error r d)
+unfoldable pub attempt-four : (card : List ℕ) → (d : ℕ) → Option (List ℕ)
+attempt-four c d = if-rank-one 4 c (last-error (spectrum c) d)
 
 unfoldable pub decode-four : (card : List ℕ) → Option (List ℕ)
-decode-four c = first-of 27 (attempt-four (spectrum c))
+decode-four c = first-of 27 (attempt-four c)
 
 last-below : (c m : List ℕ) → Near 4 c m → at m 7 < 27
 unfolding is-message at
@@ -55,8 +55,13 @@ unfolding last-error errors coefficients higher inners at
 last-is c m = refl
 
 pub four-is-decode : (c : List ℕ) → is-card c ≡ true → decode-four c ≡ decode 4 c
-unfolding decode-four attempt-four
-four-is-decode c card = answered 4 (lit≤ tt) (lit≤ tt) c card _ (first-answers 4 c 27 (attempt-four (spectrum c)) (λ m. at m 7)
-    (λ d. if-closed-good 4 (lit≤ tt) (lit≤ tt) c card (last-error (spectrum c) d))
-    (λ m near.
-    (last-below c m near, if-closed-got 4 (lit≤ tt) (lit≤ tt) c card _ m (near-ratio 4 (lit≤ tt) (lit≤ tt) c card m near) (last-is c m))))
+unfolding decode-four attempt-four if-rank-one
+four-is-decode c card =
+    let r = spectrum c in
+    answered 4 (lit≤ tt) (lit≤ tt) c card _ (
+    proposals-answer 4 c 27 (λ d. rank-one-fits 4 r (last-error r d)) (λ d. rank-one-message 4 r (last-error r d)) (λ m. at m 7) (λ m near.
+    let R = few-ratio 4 (lit≤ tt) (lit≤ tt) c card m near in (
+      last-below c m near,
+      near-fits 4 (lit≤ tt) (lit≤ tt) c card m near R _ (last-is c m),
+      near-message 4 (lit≤ tt) (lit≤ tt) c card m near R _ (last-is c m),
+    )))

@@ -1,6 +1,6 @@
 -- The error of a card, if a message near it was meant: its coefficients are those of the card less those of the message, and its rank is at
--- most the radius. Assumes nothing.
--- Main: errors, errors-rank, near-rank, errors-beyond, given-back.
+-- most the radius.
+-- Main: errors, error-values, errors-rank, near-rank, errors-beyond, given-back.
 use mathlib.Core.Path.{_≡_, sym, ap, ap₂, _∙_, fun-ext}
 use mathlib.Core.Bool.{true}
 use mathlib.Core.List.{List}
@@ -29,7 +29,7 @@ ev-difference : (r f : ℕ → ℕ) (y : ℕ) → ev (table 6 (λ i. minus (r i)
 unfolding ev table
 ev-difference r f y = simp ring
 
-pub taken-back : (r f : ℕ) → minus r (minus r f) ≡ f % 729
+taken-back : (r f : ℕ) → minus r (minus r f) ≡ f % 729
 taken-back r f = simp ring
 
 module _ (k : ℕ) (p : 1 ≤ k) (q : k ≤ 5) (c : List ℕ) (card : is-card c ≡ true) (m : List ℕ) where
@@ -42,7 +42,7 @@ module _ (k : ℕ) (p : 1 ≤ k) (q : k ≤ 5) (c : List ℕ) (card : is-card c 
   word-is = images-spectrum (word k m) (table 6 (at (coefficients k m))) (word-card k p m) (omega (arith, length-table 6 (at (coefficients k m))))
       (λ i h. at-table 6 (at (coefficients k m)) i h ∙ sym (word-spectrum k p q m i h))
 
-  error-values : images (ev (table 6 (errors k c m))) ≡ difference c (word k m)
+  pub error-values : images (ev (table 6 (errors k c m))) ≡ difference c (word k m)
   unfolding errors difference
   error-values = ap images (fun-ext (ev-difference (spectrum c) (at (coefficients k m)))) ∙ ap₂ difference card-is word-is
 

@@ -1,5 +1,5 @@
 -- The end of interpolation: the state knows a polynomial but for its last coefficient, gamma times a small symbol; that the first one is
--- small tells which, and so the polynomial's values. Assumes nothing.
+-- small tells which, and so the polynomial's values.
 -- Main: finish, knows-end.
 use mathlib.Core.Path.{_≡_, sym, ap, _∙_, fun-ext}
 use mathlib.Core.List.{List, [], _∷_}

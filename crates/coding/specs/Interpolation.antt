@@ -1,6 +1,6 @@
 -- Interpolation, a point at a time, on cards: a card is the linear function that has its symbols as values at 1, z, .. z^5. A state is two
 -- such functions G and M, with the lowest coefficients of their polynomials. If it knows a polynomial, as G + Q(M), then a step at a point
--- where M is not 0 divides Q by y³ - u² y, u being M's value there. Assumes nothing.
+-- where M is not 0 divides Q by y³ - u² y, u being M's value there.
 -- Main: State, step, Knows, knows-start, knows-step, Zeros, zeros-start, zeros-step.
 use mathlib.Core.Path.{_≡_, refl, sym, ap, _∙_}
 use mathlib.Core.List.{List, [], _∷_, map}

@@ -1,5 +1,5 @@
 -- The code and its decoding: what is promised, and the theory that proves it. In reading order.
--- Definitions and promises (document 03)
+-- Definitions and promises
 pub mod Code
 pub mod Promise
 -- Polynomials of messages, cards as linear functions, and their spectrum
@@ -25,18 +25,13 @@ pub mod Proved
 -- Decoding by algebra: the error's coefficients and their equations
 pub mod Errors
 pub mod Annihilator
-pub mod Algebraic
+pub mod Window
 pub mod RankOne
 -- and so for each k
 pub mod Clean
-pub mod Closed
+pub mod Residual
 pub mod DecodeOne
 pub mod DecodeTwo
 pub mod DecodeSingle
 -- Cards of low rank
 pub mod LowRank
--- Linear functions by packed digits
-pub mod Packed
-pub mod Rests
-pub mod Transforms
-pub mod Slots

@@ -1,5 +1,5 @@
 -- The code is linear over the small field: sums of words are words of sums, and small multiples of words are words of small multiples. So are
--- the messages: small numbers are added digit by digit, and multiplied as the small symbols that they stand for. Assumes nothing.
+-- the messages: small numbers are added digit by digit, and multiplied as the small symbols that they stand for.
 -- Main: word-sum, word-multiple.
 use mathlib.Core.Path.{_≡_, refl, sym, ap, ap₂, _∙_}
 use mathlib.Core.List.{List, [], _∷_, map}

@@ -1,4 +1,4 @@
--- Cards of low rank: every word but the zero word is too far from them, so they are decoded to the zero message or not at all. Assumes nothing.
+-- Cards of low rank: every word but the zero word is too far from them, so they are decoded to the zero message or not at all.
 -- Main: low-rank-zero, low-rank-none.
 use mathlib.Core.Path.{_≡_, refl, sym, ap, _∙_}
 use mathlib.Core.Bool.{true}

@@ -1,4 +1,4 @@
--- The list mu for each k: delta times a constant, and no other list; with it, P is the spectrum times a constant. Assumes nothing.
+-- The list mu for each k: delta times a constant, and no other list; with it, P is the spectrum times a constant.
 -- Main: mu-is, mu-alone, P-mu.
 use mathlib.Core.Path.{_≡_, refl, sym, ap, ap₂, _∙_}
 use mathlib.Core.Bool.{true}

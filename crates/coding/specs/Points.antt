@@ -1,6 +1,5 @@
 -- Points without error: where a linear function of errors has few independent values on some columns, each column is free, or in a relation with
--- the free ones before it whose point has no error; and interpolation through those points comes to a state that knows them all. Assumes
--- nothing.
+-- the free ones before it whose point has no error; and interpolation through those points comes to a state that knows them all.
 -- Main: Fresh, reached, reached-start.
 use mathlib.Core.Path.{_≡_, sym, ap, _∙_}
 use mathlib.Core.List.{List, [], _∷_, map}

@@ -1,4 +1,4 @@
--- What is promised of the code: document 03's statements. Each is a type, proved under its name in small letters in Proved. Assumes nothing.
+-- What is promised of the code. Each is a type, proved under its name in small letters in Proved.
 use mathlib.Core.Path.{_≡_}
 use mathlib.Core.Bool.{Bool, true, _&&_}
 use mathlib.Core.List.{List, [], _∷_}

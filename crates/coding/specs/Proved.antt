@@ -1,5 +1,5 @@
 -- What is promised, proved: far-apart, one-near, words-cards, mu-there, test-tells; that a word has one message, which is read off it; and
--- that decode is the message near a card, and every complete way to find one is decode. Assumes nothing.
+-- that decode is the message near a card, and every complete way to find one is decode.
 use mathlib.Core.Path.{_≡_, sym, ap, _∙_}
 use mathlib.Core.Bool.{true}
 use mathlib.Core.Logic.{_↔_}
@@ -18,7 +18,7 @@ use Rattle.coding.specs.Decode.{Answers, decode, decode-answers, answer-
 use Rattle.coding.specs.Apart.{same-message}
 use Rattle.coding.specs.WordSpectrum.{message-of, is-message-of, message-of-word, word-shaped, shaped-word}
 use Rattle.coding.specs.Mu.{mu, mu-is, mu-alone}
-use Rattle.coding.specs.TestValues.{silent, shaped}
+use Rattle.coding.specs.TestValues.{silent, silent-shape}
 
 pub far-apart : Far-apart
 unfolding Far-apart
@@ -69,5 +69,5 @@ pub test-tells : Test-tells
 unfolding Test-tells
 test-tells k nu c p q is card = rw (mu-alone k nu is) (
   (λ m e w. silent k p q c (rw w at (word-shaped k p q m))),
-  (λ z. (message-of k c, is-message-of k p q c, shaped-word k p q c card (shaped k p q c z))),
+  (λ z. (message-of k c, is-message-of k p q c, shaped-word k p q c card (silent-shape k p q c z))),
 )

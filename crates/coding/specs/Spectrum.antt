@@ -1,5 +1,5 @@
 -- The spectrum of a card c: the symbols R(0) .. R(5) for which R(0) y + R(1) y³ + .. + R(5) y^243 takes c's symbols at 1, z, .. z^5. The
--- list delta reads them off: R(i) is the total of c(s) times the 3^i-th power of delta(s). Assumes nothing.
+-- list delta reads them off: R(i) is the total of c(s) times the 3^i-th power of delta(s).
 -- Main: spectrum-images, images-spectrum, from-weighted.
 use mathlib.Core.Path.{_≡_, refl, sym, ap, ap₂, _∙_}
 use mathlib.Core.Bool.{true}

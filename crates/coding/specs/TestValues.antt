@@ -1,5 +1,5 @@
--- The test values are all 0 exactly if the card's spectrum has the shape of a word's. Assumes nothing.
--- Main: silent, shaped.
+-- The test values are all 0 exactly if the card's spectrum has the shape of a word's.
+-- Main: silent, silent-shape.
 use mathlib.Core.Path.{_≡_, refl, sym, ap, _∙_}
 use mathlib.Core.Bool.{true}
 use mathlib.Core.List.{List, [], _∷_, _++_}
@@ -83,9 +83,9 @@ module _ (k : ℕ) (p : 1 ≤ k) (h : k ≤ 5) (c : List ℕ) where
         (small-of-zero (last-is ∙ ap (times 272) (s .gamma-last) ∙ times-zero 272), tt),
   )
 
-  pub shaped : all-zero (test-values k (mu k) c) ≡ true → Shape k c
+  pub silent-shape : all-zero (test-values k (mu k) c) ≡ true → Shape k c
   unfolding test-values
-  shaped e =
+  silent-shape e =
       let z = zeros-passed (test-values k (mu k) c) e in
       let t = pairs-heard (5 - k) (suc k) (mu k) c _ (z .1) in
       record {

@@ -1,5 +1,5 @@
 -- Traces: three equations between linear functions, each by their values at the basis, say which part of a symbol a trace tells, and
--- small-of a trace is 0 exactly if the trace is. Assumes nothing.
+-- small-of a trace is 0 exactly if the trace is.
 -- Main: first-high, last-low, traces-none, small-of-none, small-of-zero.
 use mathlib.Core.Path.{_≡_, refl, sym, ap, ap₂, _∙_}
 use mathlib.Core.Bool.{Bool, true, false, cond}

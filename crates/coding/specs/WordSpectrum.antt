@@ -1,6 +1,6 @@
 -- The spectra of words: a word's spectrum is the coefficients of its message, so it gives the message back; and a card whose spectrum has
--- the shape of a word's is the word of the message read off it. Assumes nothing.
--- Main: word-shaped, message-of-word, is-message-of, shaped-word.
+-- the shape of a word's is the word of the message read off it.
+-- Main: word-shaped, message-back, message-of-word, is-message-of, shaped-word.
 use mathlib.Core.Path.{_≡_, refl, sym, ap, _∙_}
 use mathlib.Core.Bool.{true}
 use mathlib.Core.List.{List}
@@ -52,16 +52,16 @@ module _ (k : ℕ) (p : 1 ≤ k) (q : k ≤ 5) where
     none-beyond = λ i b l. word-spectrum m i l ∙ List·getD-eq-default (coefficients k m) 0 {n = i} (omega (arith, length-coefficients k p m));
   }
 
-  word-coefficients : (m : List ℕ) → table (suc k) (spectrum (word k m)) ≡ coefficients k m
+  -- coefficients of a message give it back, and so does its word
+  pub message-back : (m : List ℕ) (f : ℕ → ℕ) → ((i : ℕ) → i < 6 → f i ≡ at (coefficients k m) i) → is-message k m ≡ true → read (table (suc k) f) ≡ m
   unfolding at
-  word-coefficients m =
-      table-same (suc k) _ (at (coefficients k m)) (λ i h. word-spectrum m i (omega arith))
-      ∙ rw (← length-coefficients k p m) (table-at (coefficients k m))
+  message-back m f h u =
+      ap read (table-same (suc k) f (at (coefficients k m)) (λ i l. h i (omega arith)) ∙ rw (← length-coefficients k p m) (table-at (coefficients k m)))
+      ∙ read-coefficients k p q m u
 
-  -- a word gives its message back
   pub message-of-word : (m : List ℕ) → is-message k m ≡ true → message-of k (word k m) ≡ m
   unfolding message-of
-  message-of-word m u = ap read (word-coefficients m) ∙ read-coefficients k p q m u
+  message-of-word m u = message-back m (spectrum (word k m)) (word-spectrum m) u
 
   pub is-message-of : (c : List ℕ) → is-message k (message-of k c) ≡ true
   unfolding message-of

@@ -1,5 +1,9 @@
 -- Decoding in code: what the code's values stand for, and the proofs' steps. In reading order.
--- Errors of rank 1 or none: k = 3 and 4
+-- The annihilator of a window
+pub mod Windows
+-- Errors of rank at most 1: k = 3 and 4
 pub mod Singles
 -- Errors of rank 2: k = 1 and 2
 pub mod Doubles
+-- What decode answers
+pub mod Decoding

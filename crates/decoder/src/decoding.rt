@@ -1,4 +1,4 @@
-// Decoding (document 01: Mend): a card without damage first, else by its k. Assumes nothing: what is asked is asked in a `requires`.
+// Decoding (document 01: Mend): a card without damage first, else by its k.
 ghost use mathlib.Core.Path.{_≡_};
 ghost use mathlib.Core.Bool.{true, false};
 ghost use Prim.Native.Nat.{_≤_};
@@ -8,24 +8,25 @@ ghost use Rattle.rank.specs.Definitions.{at, is-card};
 ghost use Rattle.coding.specs.Spectrum.{spectrum};
 ghost use Rattle.coding.specs.Clean.{shaped};
 ghost use Rattle.coding.specs.Decode.{decode};
-ghost use Rattle.codec.specs.Answers.{Decoded};
-ghost use Rattle.candidate.specs.Finding.{answer, Whole};
+ghost use Rattle.refusal.specs.Replies.{outcome};
+ghost use Rattle.candidate.specs.Finding.{found-message, Consistent};
+ghost use Rattle.decoder.specs.Decoding.{decode-tests, Decoded};
 use crate::one::decode_one;
-use crate::single::find_four;
+use crate::single::decode_four;
 use crate::single::find_single;
 use crate::two::decode_two;
 use candidate::Found;
 use candidate::clean;
 use candidate::is_word;
 use candidate::nothing;
-use refusal::Answer;
+use rank::Weighed;
 use refusal::Outcome;
 use refusal::Refusal;
 
 // The message near a card that is no word, for k from 2 on. For k = 5 there is none.
 fn decode_damaged(k: usize, card: [u16; 6], r: [u16; 6]) -> Found
     requires { ⌜ (2 ≤ k) × (k ≤ 5) × (is-card card ≡ true) × (r ≡ table 6 (spectrum card)) × (shaped k (at r) ≡ false) ⌝ }
-    ensures { λ f. ⌜ (answer k f ≡ decode k card) × Whole k card f ⌝ }
+    ensures { λ f. ⌜ (found-message k f ≡ decode k card) × Consistent k card f ⌝ }
 {
     if k == 5 {
         return nothing();
@@ -36,15 +37,15 @@ fn decode_damaged(k: usize, card: [u16; 6], r: [u16; 6]) -> Found
         return decode_two(card, r, &logs, &powers);
     }
     if k == 3 {
-        return find_single(3, r, r[4], &logs, &powers);
+        return find_single(3, card, r, r[4], &logs, &powers);
     }
-    find_four(r, &logs, &powers)
+    decode_four(card, r, &logs, &powers)
 }
 
 // The message near a card, if there is one.
 pub fn decode_card(k: usize, card: [u16; 6]) -> Found
     requires { ⌜ (1 ≤ k) × (k ≤ 5) × (is-card card ≡ true) ⌝ }
-    ensures { λ f. ⌜ (answer k f ≡ decode k card) × Whole k card f ⌝ }
+    ensures { λ f. ⌜ (found-message k f ≡ decode k card) × Consistent k card f ⌝ }
 {
     if k == 1 {
         return decode_one(card);
@@ -59,7 +60,7 @@ pub fn decode_card(k: usize, card: [u16; 6]) -> Found
 // The same of a list that is a card.
 fn decode_list(k: usize, received: &[u16]) -> Found
     requires { ⌜ (1 ≤ k) × (k ≤ 5) × (length (now received) ≡ 6) × (is-card (now received) ≡ true) ⌝ }
-    ensures { λ r. ⌜ (answer k r ≡ decode k (now (received .entry))) × Whole k (now (received .entry)) r ⌝ }
+    ensures { λ r. ⌜ (found-message k r ≡ decode k (now (received .entry))) × Consistent k (now (received .entry)) r ⌝ }
 {
     let card = [
         received[0],
@@ -72,21 +73,33 @@ fn decode_list(k: usize, received: &[u16]) -> Found
     decode_card(k, card)
 }
 
-// Document 01: Mend. Fills the word near a card and its message, and answers how far the word is from the card.
-pub fn decode(k: u32, received: &[u16], word: &mut [u16], message: &mut [u16]) -> Answer
+// The tests of a card, and of the room for its word and its message.
+fn decode_tests(k: u32, card: &[u16], word: usize, message: usize) -> Outcome
+    ensures { λ r. ⌜ outcome r ≡ decode-tests k (now (card .entry)) word message ⌝ }
+{
+    if card.len() != 6 {
+        return codec::test_input(k, false, card, 728);
+    }
+    let fit = codec::lengths_fit(word, 6, message, 2 * (k as usize));
+    codec::test_input(k, fit, card, 728)
+}
+
+// Fills the word near a card and its message, and answers the weight of the difference between word and card (document 01: Mend).
+pub fn decode(k: u32, received: &[u16], word: &mut [u16], message: &mut [u16]) -> Weighed
     ensures { λ r. ⌜ Decoded k (now (received .entry)) (now (word .entry)) (now (message .entry)) r (now (word .exit)) (now (message .exit)) ⌝ }
 {
-    let tested = codec::decode_tests(k, received, word.len(), message.len());
+    let tested = decode_tests(k, received, word.len(), message.len());
     if let Outcome::Refused(why) = tested {
-        return Answer::Refused(why);
+        return Weighed::Refused(why);
     }
     let near = decode_list(k as usize, received);
     if !near.found {
-        return Answer::Refused(Refusal::Undecodable);
+        return Weighed::Refused(Refusal::Undecodable);
     }
     let w = near.word;
     let m = near.message;
-    codec::fill(word, &w);
-    codec::fill(message, &m);
-    Answer::Value(near.distance as u32)
+    lists::fill(word, &w);
+    lists::fill(message, &m);
+    let weight = near.weight;
+    Weighed::Weight(weight)
 }

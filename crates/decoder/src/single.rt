@@ -1,24 +1,24 @@
-// Errors of rank 1 or none: each coefficient is the same multiple of the cube of the one before, so two in a row give all. Less them a card's
-// spectrum has the shape of a word's exactly where they are the error, so nothing is left to be held to the card. That is all of decoding for
-// k = 3; for k = 4 the first of the two is known but for the message's last number. Assumes nothing.
+// Errors of rank at most 1 are recognised from their spectrum: each coefficient is the same multiple of the cube of the one before, so two in a
+// row give all, and the card's less them is a word's. That is all of decoding for k = 3; for k = 4 the first of the two is known but for the
+// message's last number.
 ghost use mathlib.Core.Path.{_≡_};
-ghost use mathlib.Core.Bool.{true, cond};
-ghost use Prim.Native.Nat.{suc, _-_, _≤_};
-ghost use lib.Dec.{eqb};
-ghost use lib.ListN.{take};
+ghost use mathlib.Core.Bool.{true};
+ghost use Prim.Native.Nat.{_≤_};
 ghost use Rattle.algebra.specs.Field.{minus, times, cube};
 ghost use Rattle.algebra.specs.Lists.{table};
 ghost use Rattle.algebra.specs.Inverses.{inverse};
 ghost use Rattle.rank.specs.Definitions.{at, is-card};
 ghost use Rattle.field.specs.Tables.{Tables};
+ghost use Rattle.coding.specs.Spectrum.{spectrum};
 ghost use Rattle.coding.specs.RankOne.{next-error, chain};
-ghost use Rattle.coding.specs.Clean.{none-from};
-ghost use Rattle.coding.specs.Closed.{if-closed};
+ghost use Rattle.coding.specs.Residual.{if-rank-one};
+ghost use Rattle.coding.specs.Decode.{decode};
 ghost use Rattle.coding.specs.DecodeSingle.{last-error, attempt-four};
-ghost use Rattle.coding.specs.Options.{first-of};
-ghost use Rattle.candidate.specs.Finding.{answer};
-ghost use Rattle.decoder.specs.Singles.{besides, Told, Of-spectrum};
+ghost use Rattle.candidate.specs.Finding.{found-message, Consistent};
 use candidate::Found;
+use candidate::difference;
+use candidate::is_word;
+use candidate::near;
 use candidate::nothing;
 use candidate::read_message;
 
@@ -36,96 +36,33 @@ fn chain_of(u: u16, v: u16, logs: &[u16; 729], powers: &[u16; 728]) -> [u16; 6]
     ensures { λ e. ⌜ e ≡ table 6 (chain u v) ⌝ }
 {
     let q = ratio(u, v, logs, powers);
-    let mut f = [0u16; 6];
-    let mut e = v;
-    let mut i = 0;
-    while i < 6 {
-        e = field::cube_product_with(q, e, logs, powers);
-        f[i] = e;
-        i += 1;
-    }
-    f
+    let e0 = field::cube_product_with(q, v, logs, powers);
+    let e1 = field::cube_product_with(q, e0, logs, powers);
+    let e2 = field::cube_product_with(q, e1, logs, powers);
+    let e3 = field::cube_product_with(q, e2, logs, powers);
+    let e4 = field::cube_product_with(q, e3, logs, powers);
+    let e5 = field::cube_product_with(q, e4, logs, powers);
+    [e0, e1, e2, e3, e4, e5]
 }
 
-// Whether a spectrum is the error's from number k + 1 on.
-fn follows(k: usize, r: [u16; 6], e: [u16; 6]) -> bool
-    requires { ⌜ (k ≤ 5) × (is-card r ≡ true) × (is-card e ≡ true) ⌝ }
-    ensures { λ b. ⌜ b ≡ none-from (5 - k) (suc k) (besides r e) ⌝ }
-{
-    let mut i = k + 1;
-    while i < 6 {
-        if r[i] != e[i] {
-            return false;
-        }
-        i += 1;
-    }
-    true
-}
-
-// The coefficients up to number k of a spectrum less the error's.
-fn without(k: usize, r: [u16; 6], e: [u16; 6]) -> [u16; 6]
-    requires { ⌜ k ≤ 5 ⌝ }
-    ensures { λ f. ⌜ take (suc k) f ≡ take (suc k) (table 6 (besides r e)) ⌝ }
-{
-    let mut f = [0u16; 6];
-    let mut i = 0;
-    while i <= k {
-        f[i] = field::difference(r[i], e[i]);
-        i += 1;
-    }
-    f
-}
-
-// The rank of an error of rank 1 or none, whose last coefficient is v.
-fn rank_single(v: u16) -> u8
-    ensures { λ d. ⌜ d ≡ cond (eqb v 0) 0 1 ⌝ }
-{
-    if v == 0 {
-        return 0;
-    }
-    1
-}
-
-// The message with coefficients f, where the error's last is v.
-fn told(k: usize, f: [u16; 6], v: u16) -> Found
-    requires { ⌜ (1 ≤ k) × (k ≤ 5) ⌝ }
-    ensures { λ r. ⌜ Told k f v r ⌝ }
-{
-    let message = read_message(k, f);
-    let word = codec::word_of(k, message);
-    let distance = rank_single(v);
-    Found {
-        found: true,
-        message,
-        word,
-        distance,
-    }
-}
-
-// The message near a card whose error has rank 1 or none and u before its last coefficient, if there is one.
+// The message near a card whose error has rank at most 1 and u before its last coefficient, if there is one.
 pub(crate) fn find_single(
     k: usize,
+    card: [u16; 6],
     r: [u16; 6],
     u: u16,
     logs: &[u16; 729],
     powers: &[u16; 728],
 ) -> Found
-    requires { ⌜ (1 ≤ k) × (k ≤ 4) × (is-card r ≡ true) × Tables (now logs) (now powers) ⌝ }
-    ensures { λ f. ⌜ (answer k f ≡ if-closed k (at r) u) × Of-spectrum k r f ⌝ }
+    requires { ⌜ (1 ≤ k) × (k ≤ 4) × (r ≡ table 6 (spectrum card)) × Tables (now logs) (now powers) ⌝ }
+    ensures { λ f. ⌜ (found-message k f ≡ if-rank-one k card u) × Consistent k card f ⌝ }
 {
-    let v = r[5];
-    let e = chain_of(u, v, logs, powers);
-    if !follows(k, r, e) {
+    let e = chain_of(u, r[5], logs, powers);
+    let f = difference(r, e);
+    if !is_word(k, f) {
         return nothing();
     }
-    let f = without(k, r, e);
-    if field::high(f[0]) != 0 {
-        return nothing();
-    }
-    if field::low(f[k]) != 0 {
-        return nothing();
-    }
-    told(k, f, v)
+    near(card, k, read_message(k, f))
 }
 
 // The error's coefficient before the last, if d is the message's last number.
@@ -150,26 +87,37 @@ fn first_coefficient(r: [u16; 6], u: u16, logs: &[u16; 729], powers: &[u16; 728]
     )
 }
 
-// The message near a card with last number d, if there is one. Most numbers are told by the first coefficient.
-fn attempt_four(r: [u16; 6], d: u16, logs: &[u16; 729], powers: &[u16; 728]) -> Found
-    requires { ⌜ (is-card r ≡ true) × Tables (now logs) (now powers) ⌝ }
-    ensures { λ f. ⌜ (answer 4 f ≡ attempt-four (at r) d) × Of-spectrum 4 r f ⌝ }
+// The message near a card with last number d, if there is one. Most numbers fail by the first coefficient.
+fn attempt_four(
+    card: [u16; 6],
+    r: [u16; 6],
+    d: u16,
+    logs: &[u16; 729],
+    powers: &[u16; 728],
+) -> Found
+    requires { ⌜ (r ≡ table 6 (spectrum card)) × Tables (now logs) (now powers) ⌝ }
+    ensures { λ f. ⌜ (found-message 4 f ≡ attempt-four card d) × Consistent 4 card f ⌝ }
 {
     let u = last_error(r, d, logs, powers);
     if field::high(first_coefficient(r, u, logs, powers)) != 0 {
         return nothing();
     }
-    find_single(4, r, u, logs, powers)
+    find_single(4, card, r, u, logs, powers)
 }
 
 // The message near a card for k = 4, if there is one.
-pub(crate) fn find_four(r: [u16; 6], logs: &[u16; 729], powers: &[u16; 728]) -> Found
-    requires { ⌜ (is-card r ≡ true) × Tables (now logs) (now powers) ⌝ }
-    ensures { λ f. ⌜ (answer 4 f ≡ first-of 27 (attempt-four (at r))) × Of-spectrum 4 r f ⌝ }
+pub(crate) fn decode_four(
+    card: [u16; 6],
+    r: [u16; 6],
+    logs: &[u16; 729],
+    powers: &[u16; 728],
+) -> Found
+    requires { ⌜ (is-card card ≡ true) × (r ≡ table 6 (spectrum card)) × Tables (now logs) (now powers) ⌝ }
+    ensures { λ f. ⌜ (found-message 4 f ≡ decode 4 card) × Consistent 4 card f ⌝ }
 {
     let mut d: u16 = 0;
     while d < 27 {
-        let found = attempt_four(r, d, logs, powers);
+        let found = attempt_four(card, r, d, logs, powers);
         if found.found {
             return found;
         }

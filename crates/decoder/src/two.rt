@@ -1,158 +1,139 @@
-// Decoding for k = 2: three of the error's coefficients are the card's, and the equations between them give the others for each of the 27
-// first numbers that a message can have. Assumes nothing.
+// Decoding for k = 2: three of the error's coefficients are the card's, and with the one that a message's first number gives they are a window,
+// which gives the others for each of the 27 first numbers that a message can have.
 ghost use mathlib.Core.Path.{_≡_};
 ghost use mathlib.Core.Bool.{true};
 ghost use Prim.Native.Nat.{_<_};
 ghost use Rattle.algebra.specs.Field.{add, minus, times, cube};
 ghost use Rattle.algebra.specs.Lists.{table};
-ghost use Rattle.algebra.specs.Inverses.{inverse};
 ghost use Rattle.rank.specs.Definitions.{at, is-card};
 ghost use Rattle.field.specs.Tables.{Tables};
 ghost use Rattle.coding.specs.Spectrum.{spectrum};
-ghost use Rattle.coding.specs.Algebraic.{det, numerator, key};
+ghost use Rattle.coding.specs.Window.{determinant};
 ghost use Rattle.coding.specs.Decode.{decode};
 ghost use Rattle.coding.specs.DecodeTwo.{attempt};
-ghost use Rattle.candidate.specs.Finding.{answer, Whole};
-ghost use Rattle.decoder.specs.Doubles.{Prepared};
-use crate::one::lead_of;
+ghost use Rattle.candidate.specs.Finding.{found-message, Consistent};
+ghost use Rattle.decoder.specs.Doubles.{value-at, Prepared};
 use crate::single::find_single;
+use crate::window::Annihilator;
+use crate::window::determinant;
+use crate::window::ninth_power;
+use crate::window::numerator;
+use crate::window::solved;
 use candidate::Found;
 use candidate::near;
 use candidate::nothing;
 
 // 1 / gamma^9
-const GAMMA_BACK: u16 = 684;
+const INVERSE_GAMMA_9: u16 = 684;
 
-// What all proposals share. The determinant, the numerator and what stands above the determinant in the last symbol's ninth power each are a constant
-// and a multiple of the message's first symbol.
+// A number that depends on the message's first symbol: constant + factor * symbol.
+pub struct Affine {
+    pub constant: u16,
+    pub factor: u16,
+}
+
+// What all proposals share: three of the card's coefficients; the determinant, the numerator of the annihilator's middle coefficient and that of
+// the last symbol's ninth power; and 1 / the numerator of the annihilator's lowest coefficient.
 pub struct Shared {
     pub zeroth: u16,
     pub first: u16,
-    pub det0: u16,
-    pub det1: u16,
-    pub num0: u16,
-    pub num1: u16,
-    pub above0: u16,
-    pub above1: u16,
-    pub ninth: u16,
-    pub key: u16,
+    pub fifth: u16,
+    pub determinant: Affine,
+    pub numerator: Affine,
+    pub ninth: Affine,
+    pub inverse: u16,
 }
 
-// The key of a spectrum is 0 where the error has rank 1 or none.
-fn key_of(r: [u16; 6], logs: &[u16; 729], powers: &[u16; 728]) -> u16
+fn value_at(l: Affine, x: u16, logs: &[u16; 729], powers: &[u16; 728]) -> u16
     requires { ⌜ Tables (now logs) (now powers) ⌝ }
-    ensures { λ v. ⌜ v ≡ key (at r) ⌝ }
+    ensures { λ v. ⌜ v ≡ value-at l x ⌝ }
 {
-    let b3 = field::cube_with(field::cube_with(r[3], logs, powers), logs, powers);
-    let b4 = field::cube_with(field::cube_with(r[4], logs, powers), logs, powers);
-    field::difference(
-        field::cube_product_with(b3, r[5], logs, powers),
-        field::cube_product_with(b4, r[4], logs, powers),
-    )
+    field::sum(l.constant, field::product_with(l.factor, x, logs, powers))
 }
 
-// The three constants.
-fn det_of(r: [u16; 6], logs: &[u16; 729], powers: &[u16; 728]) -> u16
-    requires { ⌜ Tables (now logs) (now powers) ⌝ }
-    ensures { λ v. ⌜ v ≡ det (at r) (at r 0) ⌝ }
-{
-    let c4 = field::cube_with(r[4], logs, powers);
-    field::difference(
-        field::product_with(c4, r[0], logs, powers),
-        field::cube_product_with(r[5], r[5], logs, powers),
-    )
-}
-
-fn numerator_of(r: [u16; 6], logs: &[u16; 729], powers: &[u16; 728]) -> u16
-    requires { ⌜ Tables (now logs) (now powers) ⌝ }
-    ensures { λ v. ⌜ v ≡ numerator (at r) (at r 0) ⌝ }
-{
-    let b3 = field::cube_with(field::cube_with(r[3], logs, powers), logs, powers);
-    let b4 = field::cube_with(field::cube_with(r[4], logs, powers), logs, powers);
-    field::difference(
-        field::product_with(b4, r[5], logs, powers),
-        field::product_with(b3, r[0], logs, powers),
-    )
-}
-
-fn above_of(
+// The numerator of the last symbol's ninth power, from a window's determinant d and the numerators n and lowest of its annihilator.
+fn ninth_numerator(
     r: [u16; 6],
-    det: u16,
-    num: u16,
-    key: u16,
+    d: u16,
+    n: u16,
+    lowest: u16,
     logs: &[u16; 729],
     powers: &[u16; 728],
 ) -> u16
     requires { ⌜ Tables (now logs) (now powers) ⌝ }
-    ensures { λ v. ⌜ v ≡ times 684 (add (times (cube (cube (at r 2))) det) (add (times num (cube (at r 3))) (times key (at r 4)))) ⌝ }
+    ensures { λ v. ⌜ v ≡ times 684 (add (times (cube (cube (at r 2))) d) (add (times n (cube (at r 3))) (times lowest (at r 4)))) ⌝ }
 {
-    let b2 = field::cube_with(field::cube_with(r[2], logs, powers), logs, powers);
+    let b2 = ninth_power(r[2], logs, powers);
     let t = field::sum(
-        field::cube_product_with(num, r[3], logs, powers),
-        field::product_with(key, r[4], logs, powers),
+        field::cube_product_with(n, r[3], logs, powers),
+        field::product_with(lowest, r[4], logs, powers),
     );
-    let u = field::sum(field::product_with(b2, det, logs, powers), t);
-    field::product_with(GAMMA_BACK, u, logs, powers)
+    let u = field::sum(field::product_with(b2, d, logs, powers), t);
+    field::product_with(INVERSE_GAMMA_9, u, logs, powers)
 }
 
+// The constants are those of a message whose first symbol is 0.
 fn prepare(r: [u16; 6], known: u16, logs: &[u16; 729], powers: &[u16; 728]) -> Shared
-    requires { ⌜ (known ≡ key (at r)) × Tables (now logs) (now powers) ⌝ }
+    requires { ⌜ (known ≡ determinant (at r 3) (at r 4) (at r 5)) × Tables (now logs) (now powers) ⌝ }
     ensures { λ s. ⌜ Prepared (at r) s ⌝ }
 {
-    let det = det_of(r, logs, powers);
-    let num = numerator_of(r, logs, powers);
-    let c3 = field::cube_with(r[3], logs, powers);
-    let c5 = field::cube_with(r[5], logs, powers);
+    let r0 = r[0];
+    let r3 = r[3];
+    let r4 = r[4];
+    let r5 = r[5];
+    let lowest = field::cube_with(known, logs, powers);
+    let before = field::cube_with(determinant(r[2], r3, r4, logs, powers), logs, powers);
+    let d = determinant(r4, r5, r0, logs, powers);
+    let n = numerator(r3, r4, r5, r0, logs, powers);
     Shared {
-        zeroth: r[0],
+        zeroth: r0,
         first: r[1],
-        det0: det,
-        det1: field::cube_with(r[4], logs, powers),
-        num0: num,
-        num1: field::cube_with(c3, logs, powers),
-        above0: above_of(r, det, num, known, logs, powers),
-        above1: field::product_with(GAMMA_BACK, lead_of(r, logs, powers), logs, powers),
-        ninth: field::cube_with(c5, logs, powers),
-        key: known,
+        fifth: r5,
+        determinant: Affine {
+            constant: d,
+            factor: field::difference(0, field::cube_with(r4, logs, powers)),
+        },
+        numerator: Affine {
+            constant: n,
+            factor: ninth_power(r3, logs, powers),
+        },
+        ninth: Affine {
+            constant: ninth_numerator(r, d, n, lowest, logs, powers),
+            factor: field::difference(
+                0,
+                field::product_with(INVERSE_GAMMA_9, before, logs, powers),
+            ),
+        },
+        inverse: field::inverse_with(lowest, logs, powers),
     }
 }
 
-// The last symbol's ninth power, from the first symbol x and the determinant.
-fn ninth(s: Shared, x: u16, d: u16, logs: &[u16; 729], powers: &[u16; 728]) -> u16
+// The message's coefficient in between, from its first symbol x and the determinant.
+fn inner_coefficient(s: Shared, x: u16, known: u16, logs: &[u16; 729], powers: &[u16; 728]) -> u16
     requires { ⌜ Tables (now logs) (now powers) ⌝ }
-    ensures { λ v. ⌜ v ≡ times (inverse d) (minus (s .above0) (times (s .above1) x)) ⌝ }
+    ensures { λ v. ⌜ v ≡ add (s .first) (times (s .inverse) (add (times (cube (cube (s .fifth))) known) (times (value-at (s .numerator) x) (cube (minus (s .zeroth) x))))) ⌝ }
 {
-    let t = field::difference(s.above0, field::product_with(s.above1, x, logs, powers));
-    field::quotient_with(t, d, logs, powers)
-}
-
-// The symbol in the middle, from them.
-fn middle(s: Shared, x: u16, d: u16, logs: &[u16; 729], powers: &[u16; 728]) -> u16
-    requires { ⌜ Tables (now logs) (now powers) ⌝ }
-    ensures { λ v. ⌜ v ≡ add (s .first) (times (inverse (s .key)) (add (times (s .ninth) d) (times (add (s .num0) (times (s .num1) x)) (cube (minus (s .zeroth) x))))) ⌝ }
-{
-    let n = field::sum(s.num0, field::product_with(s.num1, x, logs, powers));
+    let a = Annihilator {
+        inverse: s.inverse,
+        numerator: value_at(s.numerator, x, logs, powers),
+        determinant: known,
+    };
     let e = field::difference(s.zeroth, x);
-    let t = field::sum(
-        field::product_with(s.ninth, d, logs, powers),
-        field::cube_product_with(n, e, logs, powers),
-    );
-    let i = field::inverse_with(s.key, logs, powers);
-    field::sum(s.first, field::product_with(i, t, logs, powers))
+    solved(a, s.first, s.fifth, e, logs, powers)
 }
 
 // The message proposed for a first number, where its last symbol is small and it is near the card.
 fn attempt(card: [u16; 6], s: Shared, a: u16, logs: &[u16; 729], powers: &[u16; 728]) -> Found
     requires { ⌜ (a < 27) × Prepared (spectrum card) s × Tables (now logs) (now powers) ⌝ }
-    ensures { λ r. ⌜ (answer 2 r ≡ attempt card a) × Whole 2 card r ⌝ }
+    ensures { λ r. ⌜ (found-message 2 r ≡ attempt card a) × Consistent 2 card r ⌝ }
 {
     let x = field::small_symbol(a);
-    let d = field::difference(s.det0, field::product_with(s.det1, x, logs, powers));
-    let v = ninth(s, x, d, logs, powers);
+    let d = value_at(s.determinant, x, logs, powers);
+    let v = field::quotient_with(value_at(s.ninth, x, logs, powers), d, logs, powers);
     if field::high(v) != 0 {
         return nothing();
     }
-    let f = middle(s, x, d, logs, powers);
+    let f = inner_coefficient(s, x, d, logs, powers);
     let second = field::low(f);
     let third = field::high(f);
     let fourth = field::low(field::cube_with(v, logs, powers));
@@ -168,13 +149,13 @@ pub(crate) fn decode_two(
     powers: &[u16; 728],
 ) -> Found
     requires { ⌜ (is-card card ≡ true) × (r ≡ table 6 (spectrum card)) × Tables (now logs) (now powers) ⌝ }
-    ensures { λ f. ⌜ (answer 2 f ≡ decode 2 card) × Whole 2 card f ⌝ }
+    ensures { λ f. ⌜ (found-message 2 f ≡ decode 2 card) × Consistent 2 card f ⌝ }
 {
-    let key = key_of(r, logs, powers);
-    if key == 0 {
-        return find_single(2, r, r[4], logs, powers);
+    let known = determinant(r[3], r[4], r[5], logs, powers);
+    if known == 0 {
+        return find_single(2, card, r, r[4], logs, powers);
     }
-    let s = prepare(r, key, logs, powers);
+    let s = prepare(r, known, logs, powers);
     let mut a: u16 = 0;
     while a < 27 {
         let found = attempt(card, s, a, logs, powers);

@@ -1,4 +1,4 @@
--- What is demanded of Open, Pull, Read, Length and Worn, proved: each from the operation's contract. Assumes nothing.
+-- What is demanded of Open, Pull, Read, Length and Worn, proved: each from the operation's contract.
 -- Main: open-says, find-says, body-says, read-says, length-says, worn-says.
 use mathlib.Core.Path.{_≡_, refl, sym, ap, _∙_}
 use mathlib.Core.Logic.{_⊎_, inl, inr}
@@ -12,33 +12,33 @@ use borrow.Author.Tests.{eqb-true, not-false}
 use Rattle.algebra.specs.Tests.{any-above}
 use Rattle.refusal.specs.declared.Outcome.{Outcome}
 use Rattle.refusal.specs.declared.Answer.{Answer}
-use Rattle.refusal.specs.Answers.{outcome, told, answer}
+use Rattle.refusal.specs.Replies.{Reply, outcome, reply, reply-with}
 use Rattle.coding.specs.Decode.{decode}
 use Rattle.coding.specs.Proved.{decode-none}
 use Rattle.book.specs.declared.reading.Reading.{Reading}
 use Rattle.book.specs.declared.bodies.Worn.{Worn}
 use Rattle.book.specs.Layout.{tunes, part-of, body-good, symbols-from, card}
-use Rattle.book.specs.Open.{size-bad, numbers-bad, bodies-bad, open-refusal as opened}
+use Rattle.book.specs.Open.{size-bad, numbers-bad, bodies-bad, open-refusal}
 use Rattle.book.specs.Pull.{entry-of, missing, part-at, pull-refusal, pulled}
-use Rattle.book.specs.Reading.{bell-of, force-of, delay-of, only, spoken, struck, cards-in, no-card, reading}
-use Rattle.book.specs.Bodies.{body-refusal, delays-from, total-delay, flawed, is-damaged, Shown, shown, Worn-shows, Named}
+use Rattle.book.specs.Reading.{read-reply, cards-in, no-card, reading}
+use Rattle.book.specs.Bodies.{body-refusal, delays-from, total-delay, flawed, is-damaged, worn-reply, Worn-answers, Named}
 use Rattle.book.specs.Accepted.{neither, one-entry}
 use Rattle.book.specs.Pulled.{pull-accepted, pull-refused, pulled-accepted, pulled-refused, entry-found, entry-there, empty-refused}
-use Rattle.book.specs.Cards.{said-range, said-lost, said-struck, card-passes, read-bad, read-past, read-there}
+use Rattle.book.specs.CardReading.{card-range, card-lost, card-strike, card-passes, read-bad, read-past, read-there}
 use Rattle.demands.specs.Settled.{read-settled}
 use Rattle.demands.specs.CardDemands.{the-near}
-use Rattle.demands.specs.Demands.{open-refusal, Open-says, Pulled, Missing, Pull-as, Pull-says}
-use Rattle.demands.specs.Demands.{read-refusal, Struck, refused, Read-card, Read-as, Read-says}
+use Rattle.demands.specs.Demands.{opening-refusal, Open-says, Pulled, Missing, Pull-as, Pull-says}
+use Rattle.demands.specs.Demands.{reading-refusal, Read-strike, Read-card, Read-as, Read-says}
 use Rattle.demands.specs.Demands.{Delays, at-end, one-card, Length-as, Length-says, Damaged, Worn-card, Worn-as, Worn-says}
 
 -- OPEN
-pub open-says : (bs : List ℕ) (r : Answer) → told r ≡ answer (opened bs) (tunes bs) → Open-says bs (told r)
-unfolding Open-says open-refusal opened size-bad numbers-bad bodies-bad
+pub open-says : (bs : List ℕ) (r : Answer) → reply r ≡ reply-with 0 (open-refusal bs) (tunes bs) → Open-says bs (reply r)
+unfolding Open-says opening-refusal open-refusal size-bad numbers-bad bodies-bad
 open-says bs r e = e
 
 -- PULL
 module _ (bs : List ℕ) (t : ℕ) where
-  accepted : opened bs ≡ 0 → (o : Option ℕ) → entry-of bs t ≡ o → Pull-as 0 bs t (pull-refusal bs t) (pulled bs t)
+  accepted : open-refusal bs ≡ 0 → (o : Option ℕ) → entry-of bs t ≡ o → Pull-as 0 bs t (pull-refusal bs t) (pulled bs t)
   unfolding Pull-as Pulled Missing part-of
   accepted a none q =
       inr (
@@ -58,15 +58,15 @@ module _ (bs : List ℕ) (t : ℕ) where
         (e, b, (λ f d. one-entry bs a f e (d .0) (b .0) (d .1 ∙ sym (b .1))), pulled-accepted bs t a ∙ ap (part-at bs) q),
       )
 
-  pull-as : (x : ℕ) → opened bs ≡ x → Pull-as x bs t (pull-refusal bs t) (pulled bs t)
+  pull-as : (x : ℕ) → open-refusal bs ≡ x → Pull-as x bs t (pull-refusal bs t) (pulled bs t)
   unfolding Pull-as
   pull-as zero a = accepted a (entry-of bs t) refl
   pull-as (suc x) e =
-      let n : opened bs ≡ 0 → ⊥ = λ z. omega arith in
+      let n : open-refusal bs ≡ 0 → ⊥ = λ z. omega arith in
       (pull-refused bs t n ∙ e, pulled-refused bs t n)
 
   pull-says : Pull-says bs t (pull-refusal bs t) (pulled bs t)
-  unfolding Pull-says open-refusal opened size-bad numbers-bad bodies-bad
+  unfolding Pull-says opening-refusal open-refusal size-bad numbers-bad bodies-bad
   pull-says = pull-as _ refl
 
 pub find-says : (bs : List ℕ) (t : ℕ) (r : Outcome) → outcome r ≡ pull-refusal bs t → (part : List ℕ) × Pull-says bs t (outcome r) part
@@ -77,23 +77,23 @@ body-says bs t part e = (pull-refusal bs t, rw e (pull-says bs t))
 
 -- READ
 read-is : (bs : List ℕ) (n : ℕ) → Read-says bs n (reading bs n)
-unfolding Read-says Read-as Read-card Struck refused read-refusal no-card only struck bell-of force-of delay-of card symbols-from
+unfolding Read-says Read-as Read-card Read-strike reading-refusal no-card card symbols-from
 read-is bs n = go (body-good bs) refl (no-card bs n) refl (any-above 728 c) refl (decode 2 c) refl
   where
     c : List ℕ
     c = card bs n
 
     go : (g : Bool) → body-good bs ≡ g → (h : Bool) → no-card bs n ≡ h → (a : Bool) → any-above 728 c ≡ a → (o : Option (List ℕ)) → decode 2 c ≡ o
-        → Read-as (read-refusal bs n) c (reading bs n)
+        → Read-as (reading-refusal bs n) c (reading bs n)
     go false e h f a q o d = rw e (sym (read-bad bs n false (sym e) refl))
     go true e true f a q o d = rw (e, f) (sym (read-past bs n e f))
-    go true e false f true q o d = rw (e, f, q) (sym (said-range c q ∙ read-there bs n e f))
-    go true e false f false q none d = rw (e, f, q) (inr (decode-none 2 c .0 d, sym (said-lost c q d ∙ read-there bs n e f)))
+    go true e false f true q o d = rw (e, f, q) (sym (card-range c q ∙ read-there bs n e f))
+    go true e false f false q none d = rw (e, f, q) (inr (decode-none 2 c .0 d, sym (card-lost c q d ∙ read-there bs n e f)))
     go true e false f false q (some m) d =
         rw (e, f, q)
-        (inl (m, (the-near 2 (omega arith) (omega arith) c (card-passes c refl q) m d, sym (said-struck c m q d ∙ read-there bs n e f))))
+        (inl (m, (the-near 2 (omega arith) (omega arith) c (card-passes c refl q) m d, sym (card-strike c m q d ∙ read-there bs n e f))))
 
-pub read-says : (bs : List ℕ) (n : ℕ) (r : Reading) → spoken r ≡ reading bs n → Read-says bs n (spoken r)
+pub read-says : (bs : List ℕ) (n : ℕ) (r : Reading) → read-reply r ≡ reading bs n → Read-says bs n (read-reply r)
 read-says bs n r e = rw e (read-is bs n)
 
 -- LENGTH
@@ -102,11 +102,11 @@ unfolding delays-from
 delays bs zero n = at-end n
 delays bs (suc k) n = one-card k n (delays-from k (suc n) bs) (reading bs n) (read-is bs n) (delays bs k (suc n))
 
-pub length-says : (bs : List ℕ) (r : Answer) → told r ≡ answer (body-refusal bs) (total-delay bs) → Length-says bs (told r)
-unfolding Length-says Length-as body-refusal answer total-delay
+pub length-says : (bs : List ℕ) (r : Answer) → reply r ≡ reply-with 0 (body-refusal bs) (total-delay bs) → Length-says bs (reply r)
+unfolding Length-says Length-as body-refusal reply-with total-delay
 length-says bs r e = rw e (go (body-good bs) refl)
   where
-    go : (g : Bool) → body-good bs ≡ g → Length-as g bs (answer (body-refusal bs) (total-delay bs))
+    go : (g : Bool) → body-good bs ≡ g → Length-as g bs (reply-with 0 (body-refusal bs) (total-delay bs))
     go true h = rw h (refl, delays bs (cards-in bs) 1)
     go false h = rw h
 
@@ -127,16 +127,16 @@ named : (bs : List ℕ) (o : Option ℕ) → Named bs o → Worn-card bs o
 unfolding Named Worn-card Damaged Read-says is-damaged flawed
 named bs none f =
     λ n (low, high, (r, h, bad)).
-    let same = read-settled (card bs n) r (reading bs n) (read-refusal bs n) h (read-is bs n) in
-    flawed-none (reading bs n .refusal) (reading bs n .damage) (f n low high) (rw same at bad)
-named bs (some n) (low, high, e) = (low, high, (reading bs n, read-is bs n, flawed-some (reading bs n .refusal) (reading bs n .damage) e))
+    let same = read-settled (card bs n) r (reading bs n) (reading-refusal bs n) h (read-is bs n) in
+    flawed-none (reading bs n .refusal) (reading bs n .value .damage .rank) (f n low high) (rw same at bad)
+named bs (some n) (low, high, e) = (low, high, (reading bs n, read-is bs n, flawed-some (reading bs n .refusal) (reading bs n .value .damage .rank) e))
 
-pub worn-says : (bs : List ℕ) (r : Worn) → Worn-shows bs (shown r) → Worn-says bs (shown r)
+pub worn-says : (bs : List ℕ) (r : Worn) → Worn-answers bs (worn-reply r) → Worn-says bs (worn-reply r)
 unfolding Worn-says Worn-as body-refusal
-worn-says bs r w = go (shown r) (body-good bs) refl w
+worn-says bs r w = go (worn-reply r) (body-good bs) refl w
   where
-    go : (s : Shown) (g : Bool) → body-good bs ≡ g → Worn-shows bs s → Worn-as g bs s
-    go s true h w = (w .refusal ∙ rw h, named bs (s .card) (w .named h))
+    go : (s : Reply (Option ℕ)) (g : Bool) → body-good bs ≡ g → Worn-answers bs s → Worn-as g bs s
+    go s true h w = (w .refusal ∙ rw h, named bs (s .value) (w .named h))
     go s false h w =
         let a : s .refusal ≡ 2 = w .refusal ∙ rw h in
-        λ i. record { refusal = a i; card = w .refused h i }
+        λ i. record { refusal = a i; value = w .refused h i }

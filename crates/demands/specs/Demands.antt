@@ -1,8 +1,7 @@
--- The page that a sceptic reads first: what each operation of document 01 answers and leaves in the lists lent to it, as document 03 states it.
--- src/lib.rt promises it of the operations themselves. To be read with rank/Definitions, coding/Code, coding/Promise, book/Layout, book/Open.
--- Answers are in the numbers of document 01, which `outcome` and `told` (refusal/Answers), `spoken` (book/Reading) and `shown` (book/Bodies)
--- give for each case of an enum. Beyond document 03, Mended and Struck have the only near message, Test-says the only mu, Weigh-says the bound,
--- and Pull-says and Worn-says are new. Assumes nothing: these are definitions.
+-- The page that a sceptic reads first: what each operation answers and leaves in the lists lent to it, in the words of SPECIFICATION 8.
+-- src/lib.rt promises it of the operations themselves. To be read with rank/Definitions, rank/Weight, coding/Code, coding/Promise, strike/Strikes,
+-- book/Layout and book/Open. Answers are replies (refusal/Replies): `outcome`, `reply`, `weight-reply` (rank/Weight), `read-reply` (book/Reading) and
+-- `worn-reply` (book/Bodies) give them for each case of an enum. A message or a list mu that is named here is the only one of its kind.
 -- Main: Code-says, Press-says, Weigh-says, Test-says, Mend-says, Open-says, Pull-says, Read-says, Length-says, Worn-says.
 --
 -- THE FIRST DEMAND: every operation ends, does nothing undefined, refuses bad input by number in a fixed order, and then changes nothing.
@@ -20,16 +19,18 @@ use lib.Dec.{ltb, eqb}
 use lib.ListN.{length, take, drop}
 use Rattle.algebra.specs.Tests.{any-above}
 use Rattle.algebra.specs.SmallField.{Small-field}
-use Rattle.refusal.specs.Answers.{Told, answer}
-use Rattle.rank.specs.Definitions.{at, rank, apart}
+use Rattle.refusal.specs.Replies.{Reply, replied, refused-with, reply-with}
+use Rattle.rank.specs.declared.Weight.{Weight}
+use Rattle.rank.specs.Definitions.{difference}
 use Rattle.rank.specs.Distance.{Rank-even}
+use Rattle.rank.specs.Weight.{weight-of, no-weight}
 use Rattle.coding.specs.Code.{word, Near, test-values}
 use Rattle.coding.specs.Promise.{One-near, Far-apart, Words-cards, Mu, Mu-there, Test-tells}
-use Rattle.codec.specs.Answers.{k-bad}
+use Rattle.codec.specs.Operations.{k-bad}
+use Rattle.strike.specs.Strikes.{strike-of}
 use Rattle.book.specs.Layout.{tunes, tune-number, offset, cards, body-good, card}
 use Rattle.book.specs.Open.{numbers-good, bodies-good}
-use Rattle.book.specs.Reading.{Spoken, cards-in}
-use Rattle.book.specs.Bodies.{Shown}
+use Rattle.book.specs.Reading.{Card-value, no-value, cards-in}
 
 -- THE CODE ITSELF: One-near is the third demand's, the others are the second's
 pub record Code-says : Type 0 where
@@ -61,8 +62,8 @@ Press-says k m r w v =
 unfoldable pub weigh-refusal : List ℕ → ℕ
 weigh-refusal c = cond (not (eqb (length c) 6)) 2 (cond (any-above 728 c) 3 0)
 
-unfoldable pub Weigh-says : List ℕ → Told → Type 0
-Weigh-says c r = (r ≡ answer (weigh-refusal c) (rank c)) × (r .value ≤ 6)
+unfoldable pub Weigh-says : List ℕ → Reply Weight → Type 0
+Weigh-says c r = (r ≡ reply-with no-weight (weigh-refusal c) (weight-of c)) × (r .value .rank ≤ 6)
 
 -- TEST: 1, 2, 3; else the test values, by the only list mu
 unfoldable pub test-refusal : (k : ℕ) → (c : List ℕ) → (room : ℕ) → ℕ
@@ -81,27 +82,27 @@ unfoldable pub mend-refusal : (k : ℕ) → (c : List ℕ) → (w m : ℕ) → �
 mend-refusal k c w m =
     cond (k-bad k) 1 (cond (not (eqb (length c) 6 && (eqb w 6 && eqb m (2 * k)))) 2 (cond (any-above 728 c) 3 0))
 
-unfoldable pub Mended : (k : ℕ) → (c : List ℕ) → Told → (w-now m-now : List ℕ) → Type 0
-Mended k c r v n = The-near k c n × (v ≡ word k n) × (r ≡ record { refusal = 0; value = apart (word k n) c })
+unfoldable pub Mended : (k : ℕ) → (c : List ℕ) → Reply Weight → (w-now m-now : List ℕ) → Type 0
+Mended k c r v n = The-near k c n × (v ≡ word k n) × (r ≡ replied (weight-of (difference (word k n) c)))
 
-unfoldable pub Hopeless : (k : ℕ) → (c : List ℕ) → Told → (w w-now m m-now : List ℕ) → Type 0
-Hopeless k c r w v m n = None-near k c × (v ≡ w) × (n ≡ m) × (r ≡ record { refusal = 4; value = 0 })
+unfoldable pub Hopeless : (k : ℕ) → (c : List ℕ) → Reply Weight → (w w-now m m-now : List ℕ) → Type 0
+Hopeless k c r w v m n = None-near k c × (v ≡ w) × (n ≡ m) × (r ≡ refused-with no-weight 4)
 
-unfoldable pub Mend-as : (refusal : ℕ) → (k : ℕ) → (c : List ℕ) → Told → (w w-now m m-now : List ℕ) → Type 0
+unfoldable pub Mend-as : (refusal : ℕ) → (k : ℕ) → (c : List ℕ) → Reply Weight → (w w-now m m-now : List ℕ) → Type 0
 Mend-as zero k c r w v m n = Mended k c r v n ⊎ Hopeless k c r w v m n
-Mend-as (suc x) k c r w v m n = (v ≡ w) × (n ≡ m) × (r ≡ record { refusal = suc x; value = 0 })
+Mend-as (suc x) k c r w v m n = (v ≡ w) × (n ≡ m) × (r ≡ refused-with no-weight (suc x))
 
-unfoldable pub Mend-says : (k : ℕ) → (c : List ℕ) → Told → (w w-now m m-now : List ℕ) → Type 0
+unfoldable pub Mend-says : (k : ℕ) → (c : List ℕ) → Reply Weight → (w w-now m m-now : List ℕ) → Type 0
 Mend-says k c r w v m n = Mend-as (mend-refusal k c (length w) (length m)) k c r w v m n
 
 -- OPEN: 5, 6, 7; else the number of tunes
-unfoldable pub open-refusal : List ℕ → ℕ
-open-refusal bs =
+unfoldable pub opening-refusal : List ℕ → ℕ
+opening-refusal bs =
     cond (ltb 65536 (length bs) || (ltb (length bs) 2 || ltb (length bs) (2 + 8 * tunes bs))) 5
     (cond (not (numbers-good (tunes bs) 0 1 bs)) 6 (cond (not (bodies-good (tunes bs) 0 (2 + 8 * tunes bs) bs)) 7 0))
 
-unfoldable pub Open-says : List ℕ → Told → Type 0
-Open-says bs r = r ≡ answer (open-refusal bs) (tunes bs)
+unfoldable pub Open-says : List ℕ → Reply ℕ → Type 0
+Open-says bs r = r ≡ reply-with 0 (opening-refusal bs) (tunes bs)
 
 -- PULL: 5, 6, 7; else the part of the one entry that bears the tune number, or 8. The part is empty exactly on a refusal
 abbrev pub Bears : List ℕ → (t e : ℕ) → Type 0
@@ -119,53 +120,49 @@ Pull-as zero bs t r p = Pulled bs t r p ⊎ Missing bs t r p
 Pull-as (suc n) bs t r p = (r ≡ suc n) × (p ≡ [])
 
 unfoldable pub Pull-says : List ℕ → (t r : ℕ) → (part : List ℕ) → Type 0
-Pull-says bs t r p = Pull-as (open-refusal bs) bs t r p
+Pull-says bs t r p = Pull-as (opening-refusal bs) bs t r p
 
 -- READ: 2 for the body, 9 for the card number, 3; else the strike of the message near the card with its damage, or 4
-unfoldable pub read-refusal : (body : List ℕ) → (n : ℕ) → ℕ
-read-refusal bs n =
+unfoldable pub reading-refusal : (body : List ℕ) → (n : ℕ) → ℕ
+reading-refusal bs n =
     cond (not (body-good bs)) 2 (cond (eqb n 0 || ltb (cards-in bs) n) 9 (cond (any-above 728 (card bs n)) 3 0))
 
-unfoldable pub Struck : (c m : List ℕ) → Spoken → Type 0
-Struck c m r =
-    The-near 2 c m × (r ≡ record { refusal = 0; bell = at m 0; force = at m 1; delay = 27 * at m 2 + at m 3; damage = apart (word 2 m) c })
+unfoldable pub Read-strike : (c m : List ℕ) → Reply Card-value → Type 0
+Read-strike c m r = The-near 2 c m × (r ≡ replied (record { strike = strike-of m; damage = weight-of (difference (word 2 m) c) }))
 
-unfoldable pub refused : (n : ℕ) → Spoken → Type 0
-refused n r = r ≡ record { refusal = n; bell = 0; force = 0; delay = 0; damage = 0 }
+unfoldable pub Read-card : (c : List ℕ) → Reply Card-value → Type 0
+Read-card c r = ((m : List ℕ) × Read-strike c m r) ⊎ (None-near 2 c × (r ≡ refused-with no-value 4))
 
-unfoldable pub Read-card : (c : List ℕ) → Spoken → Type 0
-Read-card c r = ((m : List ℕ) × Struck c m r) ⊎ (None-near 2 c × refused 4 r)
-
-unfoldable pub Read-as : (refusal : ℕ) → (c : List ℕ) → Spoken → Type 0
+unfoldable pub Read-as : (refusal : ℕ) → (c : List ℕ) → Reply Card-value → Type 0
 Read-as zero c r = Read-card c r
-Read-as (suc n) c r = refused (suc n) r
+Read-as (suc n) c r = r ≡ refused-with no-value (suc n)
 
-unfoldable pub Read-says : (body : List ℕ) → (n : ℕ) → Spoken → Type 0
-Read-says bs n r = Read-as (read-refusal bs n) (card bs n) r
+unfoldable pub Read-says : (body : List ℕ) → (n : ℕ) → Reply Card-value → Type 0
+Read-says bs n r = Read-as (reading-refusal bs n) (card bs n) r
 
 -- LENGTH: 2 for the body; else the sum of the delays that Read says of all cards, 0 of a refused one
 pub data Delays (bs : List ℕ) : (left n : ℕ) → (total : ℕ) → Type 0 where
   at-end : (n : ℕ) → Delays bs 0 n 0
-  one-card : (k n d : ℕ) (r : Spoken) → Read-says bs n r → Delays bs k (suc n) d → Delays bs (suc k) n (r .delay + d)
+  one-card : (k n d : ℕ) (r : Reply Card-value) → Read-says bs n r → Delays bs k (suc n) d → Delays bs (suc k) n (r .value .strike .delay + d)
 
-unfoldable pub Length-as : (good : Bool) → (body : List ℕ) → Told → Type 0
+unfoldable pub Length-as : (good : Bool) → (body : List ℕ) → Reply ℕ → Type 0
 Length-as true bs r = (r .refusal ≡ 0) × Delays bs (cards-in bs) 1 (r .value)
-Length-as false bs r = r ≡ record { refusal = 2; value = 0 }
+Length-as false bs r = r ≡ refused-with 0 2
 
-unfoldable pub Length-says : (body : List ℕ) → Told → Type 0
+unfoldable pub Length-says : (body : List ℕ) → Reply ℕ → Type 0
 Length-says bs r = Length-as (body-good bs) bs r
 
 -- WORN: 2 for the body; else a card that Read refuses or mends with rank 1 or more, or none exactly if there is no such card
 unfoldable pub Damaged : (body : List ℕ) → (n : ℕ) → Type 0
-Damaged bs n = (1 ≤ n) × (n ≤ cards-in bs) × ((r : Spoken) × Read-says bs n r × ((1 ≤ r .refusal) ⊎ (1 ≤ r .damage)))
+Damaged bs n = (1 ≤ n) × (n ≤ cards-in bs) × ((r : Reply Card-value) × Read-says bs n r × ((1 ≤ r .refusal) ⊎ (1 ≤ r .value .damage .rank)))
 
 unfoldable pub Worn-card : (body : List ℕ) → Option ℕ → Type 0
 Worn-card bs (some n) = Damaged bs n
 Worn-card bs none = (n : ℕ) → Damaged bs n → ⊥
 
-unfoldable pub Worn-as : (good : Bool) → (body : List ℕ) → Shown → Type 0
-Worn-as true bs r = (r .refusal ≡ 0) × Worn-card bs (r .card)
-Worn-as false bs r = r ≡ record { refusal = 2; card = none }
+unfoldable pub Worn-as : (good : Bool) → (body : List ℕ) → Reply (Option ℕ) → Type 0
+Worn-as true bs r = (r .refusal ≡ 0) × Worn-card bs (r .value)
+Worn-as false bs r = r ≡ refused-with none 2
 
-unfoldable pub Worn-says : (body : List ℕ) → Shown → Type 0
+unfoldable pub Worn-says : (body : List ℕ) → Reply (Option ℕ) → Type 0
 Worn-says bs r = Worn-as (body-good bs) bs r

@@ -1,8 +1,10 @@
 -- What is demanded of the operations and of the code. In reading order.
--- The page to read first (document 03's statements)
+-- The page to read first
 pub mod Demands
 -- What is said leaves nothing free
 pub mod Settled
 -- What is said holds: of the code, Press, Weigh, Test and Mend; of Open, Pull, Read, Length and Worn
 pub mod CardDemands
 pub mod BookDemands
+-- The cases that are to be theorems
+pub mod Cases

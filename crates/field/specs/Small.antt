@@ -1,16 +1,14 @@
--- The small field by digits: each formula passes one test with its definition. Assumes nothing.
--- Main: small-is, low-is, high-is, small-of-low, small-of-none.
-use mathlib.Core.Path.{_≡_, refl, sym, ap, _∙_}
+-- The small field by digits: each formula passes one test with its definition.
+-- Main: small-is, low-is, high-is.
+use mathlib.Core.Path.{_≡_, refl, _∙_}
 use mathlib.Core.Bool.{true}
-use Prim.Native.Nat.{ℕ, zero, suc, _+_, _*_, _/_, _%_, _≤_, _<_}
-use native.Mathlib.Nat.{mod-lt, mod-eq-of-lt}
-use native.Mathlib.Omega.{arith}
+use Prim.Native.Nat.{ℕ, _+_, _*_, _/_, _%_}
+use native.Mathlib.Nat.{mod-lt}
 use lib.Dec.{eqb, lit<}
-use borrow.Author.Tests.{ne-eqb}
-use Rattle.algebra.specs.Field.{small, small-from, small-of}
+use Rattle.algebra.specs.Field.{small}
 use Rattle.algebra.specs.Tests.{every, tested}
 use Rattle.algebra.specs.Linear.{computing, at-rest}
-use Rattle.algebra.specs.SmallField.{low, high, low-linear, high-linear, low-below, low-small, small-back, small-rest}
+use Rattle.algebra.specs.SmallField.{low, high, low-linear, high-linear, small-rest}
 
 -- THE SYMBOL OF A SMALL NUMBER
 abbrev small-by : ℕ → ℕ
@@ -43,18 +41,3 @@ high-test = refl
 
 pub high-is : (v : ℕ) → high-by (v % 729) ≡ high v
 high-is v = tested 729 high-by high high-test (v % 729) (mod-lt v (lit< tt)) ∙ at-rest high-linear v
-
--- THE SMALL NUMBER OF A SYMBOL, if it has one, is its low one
-pub small-of-low : (v : ℕ) → small (low v) ≡ v → small-of v ≡ low v
-small-of-low v e = ap small-of (sym e) ∙ small-back (low v) (low-below v)
-
-pub small-of-none : (v : ℕ) → (small (low v) ≡ v → ⊥) → small-of v ≡ 27
-unfolding small-of small-from
-small-of-none v n = go 27 0 (omega arith)
-  where
-    other : (c : ℕ) → c < 27 → small c ≡ v → ⊥
-    other c h e = n (ap (λ (x : ℕ). small (low x)) (sym e) ∙ ap small (low-small c ∙ mod-eq-of-lt h) ∙ e)
-
-    go : (left c : ℕ) → left + c ≤ 27 → small-from left c v ≡ 27
-    go zero c h = refl
-    go (suc k) c h = rw (ne-eqb (small c) v (other c (omega arith))) (go k (suc c) (omega arith))

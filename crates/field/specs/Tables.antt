@@ -1,4 +1,4 @@
--- The tables that products and inverses read, and what they read there. Assumes nothing.
+-- The tables that products and inverses read, and what they read there.
 -- Main: Tables, log-small, logs-small, product-near, product-round, cube-read, cube-product-read, inverse-one, inverse-back, quotient-read.
 use mathlib.Core.Path.{_≡_, sym, ap, ap₂, _∙_}
 use mathlib.Core.List.{List}
@@ -32,9 +32,9 @@ pub zero-right : (a b : ℕ) → Zero b → 0 ≡ times a b
 zero-right a b z = sym (sym (times-rest a b) ∙ ap (times a) z ∙ times-zero a)
 
 -- the powers come round after 728, however often
-power-rounds : (q k : ℕ) → power 3 (k + q * 728) ≡ power 3 k
-power-rounds zero k = ap (power 3) (omega arith)
-power-rounds (suc q) k = ap (power 3) (omega arith) ∙ power-round (k + q * 728) ∙ power-rounds q k
+power-rounds : (q n : ℕ) → power 3 (n + q * 728) ≡ power 3 n
+power-rounds zero n = ap (power 3) (omega arith)
+power-rounds (suc q) n = ap (power 3) (omega arith) ∙ power-round (n + q * 728) ∙ power-rounds q n
 
 power-rest : (n : ℕ) → power 3 (n % 728) ≡ power 3 n
 power-rest n = sym (power-rounds (n / 728) (n % 728)) ∙ ap (power 3) (omega arith)
@@ -53,8 +53,8 @@ module _ {l p : List ℕ} (t : Tables l p) where
   pub logs-small : (a b : ℕ) → (exponent l a < 728) × (exponent l b < 728)
   logs-small a b = (log-small a, log-small b)
 
-  power-read : (k : ℕ) → k < 728 → getD p k 0 ≡ power 3 k
-  power-read k h = rw (t .powers) (power-at k h)
+  power-read : (n : ℕ) → n < 728 → getD p n 0 ≡ power 3 n
+  power-read n h = rw (t .powers) (power-at n h)
 
   -- PRODUCTS: the exponents are added, and come round after 728
   module _ (a b : ℕ) (n : ¬ Zero a) (m : ¬ Zero b) where
@@ -72,7 +72,7 @@ module _ {l p : List ℕ} (t : Tables l p) where
   cube-by-log : (a : ℕ) → ¬ Zero a → power 3 (3 * exponent l a) ≡ cube a
   unfolding cube
   cube-by-log a n =
-      ap (λ (k : ℕ). power 3 (3 * k)) (log-read a)
+      ap (λ (n : ℕ). power 3 (3 * n)) (log-read a)
       ∙ ap (power 3) thrice
       ∙ sym (ap (times (power 3 (log a))) (power-plus (log a) (log a)) ∙ power-plus (log a) (log a + log a))
       ∙ ap cube (power-log a n)
@@ -108,7 +108,7 @@ module _ {l p : List ℕ} (t : Tables l p) where
       ∙ power-rest (exponent l a + 728 - exponent l b)
       ∙ ap (power 3) turned
       ∙ sym (power-plus (728 - exponent l b) (exponent l a))
-      ∙ ap₂ times (ap (λ (k : ℕ). power 3 (728 - k)) (log-read b) ∙ sym (inverse-power b m)) (ap (power 3) (log-read a) ∙ power-log a n)
+      ∙ ap₂ times (ap (λ (n : ℕ). power 3 (728 - n)) (log-read b) ∙ sym (inverse-power b m)) (ap (power 3) (log-read a) ∙ power-log a n)
       ∙ times-rest (inverse b) a
     where
       turned : exponent l a + 728 - exponent l b ≡ 728 - exponent l b + exponent l a

@@ -1,6 +1,6 @@
-// Cubes by their table, for callers that have no other table at hand. Assumes nothing.
+// Cubes by their table.
 ghost use mathlib.Core.Path.{_≡_};
-ghost use Rattle.algebra.specs.Field.{cube, risen};
+ghost use Rattle.algebra.specs.Field.{cube};
 use super::tables::CUBES;
 
 pub fn cube(a: u16) -> u16
@@ -8,17 +8,4 @@ pub fn cube(a: u16) -> u16
 {
     let i = (a % 729) as usize;
     CUBES[i]
-}
-
-// a to the 3^i
-pub fn risen(i: u32, a: u16) -> u16
-    ensures { λ r. ⌜ r ≡ risen i a ⌝ }
-{
-    let mut r = a;
-    let mut n: u32 = 0;
-    while n < i {
-        r = cube(r);
-        n += 1;
-    }
-    r
 }

@@ -1,5 +1,5 @@
 // Products, cubes and inverses by logarithms. Each use of a constant table copies it, so code that multiplies often takes the tables once, from
-// `logs` and `powers`, and lends them to the functions that end in _with. These assume that what is lent are the tables, and nothing else.
+// `logs` and `powers`, and lends them to the functions that end in _with. These require that what is lent are the tables.
 ghost use mathlib.Core.Path.{_≡_};
 ghost use Rattle.algebra.specs.Field.{times, cube};
 ghost use Rattle.algebra.specs.Lists.{table};
@@ -33,11 +33,11 @@ pub fn product_with(a: u16, b: u16, logs: &[u16; 729], powers: &[u16; 728]) -> u
     if y == 0 {
         return 0;
     }
-    let k = (logs[x] as usize) + (logs[y] as usize);
-    if k < 728 { powers[k] } else { powers[k - 728] }
+    let n = (logs[x] as usize) + (logs[y] as usize);
+    if n < 728 { powers[n] } else { powers[n - 728] }
 }
 
-// The exponent of a cube is three times as large. Where no tables are at hand, `cube` has its own.
+// The exponent of a cube is three times as large.
 pub fn cube_with(a: u16, logs: &[u16; 729], powers: &[u16; 728]) -> u16
     requires { ⌜ Tables (now logs) (now powers) ⌝ }
     ensures { λ r. ⌜ r ≡ cube a ⌝ }
@@ -46,8 +46,8 @@ pub fn cube_with(a: u16, logs: &[u16; 729], powers: &[u16; 728]) -> u16
     if x == 0 {
         return 0;
     }
-    let k = 3 * (logs[x] as usize) % 728;
-    powers[k]
+    let n = 3 * (logs[x] as usize) % 728;
+    powers[n]
 }
 
 // a times the cube of b, by one sum of exponents.
@@ -63,11 +63,11 @@ pub fn cube_product_with(a: u16, b: u16, logs: &[u16; 729], powers: &[u16; 728])
     if y == 0 {
         return 0;
     }
-    let k = ((logs[x] as usize) + 3 * (logs[y] as usize)) % 728;
-    powers[k]
+    let n = ((logs[x] as usize) + 3 * (logs[y] as usize)) % 728;
+    powers[n]
 }
 
-// The exponent of the inverse of z^k is 728 - k, and that of 1 is 0.
+// The exponent of the inverse of z^n is 728 - n, and that of 1 is 0.
 pub fn inverse_with(a: u16, logs: &[u16; 729], powers: &[u16; 728]) -> u16
     requires { ⌜ Tables (now logs) (now powers) ⌝ }
     ensures { λ r. ⌜ r ≡ inverse a ⌝ }
@@ -76,8 +76,8 @@ pub fn inverse_with(a: u16, logs: &[u16; 729], powers: &[u16; 728]) -> u16
     if x == 0 {
         return 0;
     }
-    let k = logs[x] as usize;
-    if k == 0 { 1 } else { powers[728 - k] }
+    let n = logs[x] as usize;
+    if n == 0 { 1 } else { powers[728 - n] }
 }
 
 // a over b, by the difference of exponents; 0 where b is 0.
@@ -93,22 +93,6 @@ pub fn quotient_with(a: u16, b: u16, logs: &[u16; 729], powers: &[u16; 728]) -> 
     if y == 0 {
         return 0;
     }
-    let k = ((logs[x] as usize) + 728 - (logs[y] as usize)) % 728;
-    powers[k]
-}
-
-pub fn product(a: u16, b: u16) -> u16
-    ensures { λ r. ⌜ r ≡ times a b ⌝ }
-{
-    let l = logs();
-    let p = powers();
-    product_with(a, b, &l, &p)
-}
-
-pub fn inverse(a: u16) -> u16
-    ensures { λ r. ⌜ r ≡ inverse a ⌝ }
-{
-    let l = logs();
-    let p = powers();
-    inverse_with(a, &l, &p)
+    let n = ((logs[x] as usize) + 728 - (logs[y] as usize)) % 728;
+    powers[n]
 }

@@ -1,7 +1,7 @@
 // The small field: the symbols of the small numbers 0 to 26, and the two small numbers of a symbol. The three functions are linear, and
-// written out by the digits of their values at 1, 3, 9, ..: rests by 3 are taken of sums only, as in sums.rt. Assumes nothing.
+// written out by the digits of their values at 1, 3, 9, ..: remainders by 3 are taken of sums only, as in sums.rt.
 ghost use mathlib.Core.Path.{_≡_};
-ghost use Rattle.algebra.specs.Field.{small, «small-of»};
+ghost use Rattle.algebra.specs.Field.{small};
 ghost use Rattle.algebra.specs.SmallField.{low, high};
 
 // c0 + c1 h + c2 h^2: h is 650, with digits 2 0 0 0 2 2, and h^2 is 137, with digits 2 0 0 2 1 0.
@@ -37,12 +37,4 @@ pub fn high(v: u16) -> u16
     let v4 = v0 / 81;
     let v5 = v0 / 243;
     (v1 + 2 * v2 + v3 + v4 + 2 * v5) % 3 + 3 * (v2 % 3) + 9 * ((v3 + v4 + 2 * v5) % 3)
-}
-
-// The only small number that v can stand for is its low one.
-pub fn small_number(v: u16) -> u16
-    ensures { λ r. ⌜ r ≡ small-of v ⌝ }
-{
-    let c = low(v);
-    if small_symbol(c) == v { c } else { 27 }
 }

@@ -1,5 +1,5 @@
-// Sums of symbols, digit by digit, and combinations with digits as coefficients. The digit of a at 3^k is the rest of a / 3^k by 3, and rests
-// are taken of sums only. The six digits are written out, since a loop would cost more than the sum. Assumes nothing.
+// Sums of symbols, digit by digit, and combinations with digits as coefficients. The digit of a at 3^i is the remainder of a / 3^i by 3, and
+// remainders are taken of sums only. The six digits are written out, since a loop would cost more than the sum.
 ghost use mathlib.Core.Path.{_≡_};
 ghost use Prim.Native.Nat.{ℕ, _+_, _≤_};
 ghost use lib.ListN.{getD};
@@ -35,25 +35,7 @@ pub fn difference(a: u16, b: u16) -> u16
     r as u16
 }
 
-pub fn negative(a: u16) -> u16
-    ensures { λ r. ⌜ r ≡ minus 0 a ⌝ }
-{
-    difference(0, a)
-}
-
-pub fn scale(d: u16, a: u16) -> u16
-    ensures { λ r. ⌜ r ≡ scale d a ⌝ }
-{
-    if d % 3 == 0 {
-        0
-    } else if d % 3 == 1 {
-        a % 729
-    } else {
-        sum(a, a)
-    }
-}
-
-// A multiple of a symbol more. A symbol under way is six numbers whose rests by 3 are its digits: they are settled once, at the end. Five
+// A multiple of a symbol more. A symbol under way is six numbers whose remainders by 3 are its digits: they are settled once, at the end. Five
 // symbols, at most twice 65535 each, came before. A digit 0 costs nothing.
 fn raised(s: [u32; 6], d: u16, a: u16) -> [u32; 6]
     requires { ⌜ ((k : ℕ) → getD s k 0 ≤ 655350) ⌝ }

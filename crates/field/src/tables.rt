@@ -1,7 +1,7 @@
 // The constant tables of the field: powers, cubes and logarithms, each by what stands at its place. What they hold is proved where they
-// are read, in products.rt and cubes.rt. Assumes nothing.
+// are read, in products.rt and cubes.rt.
 
-// z^k at the place k, z being symbol 3.
+// z^n at place n, z being symbol 3.
 pub const POWERS: [u16; 728] = [
     1, // z^0
     3,

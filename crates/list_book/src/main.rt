@@ -1,4 +1,4 @@
-// Lists a tune book, tune by tune and card by card (document 01: the listing program): the book is in the file that the argument names, or on
+// Lists a tune book, tune by tune and card by card (SPECIFICATION 10.1): the book is in the file that the argument names, or on
 // standard input. What is handed over to be printed is proved to be the listing.
 // Assumes what `os`, `io` and `libc` assume of reading and writing.
 ghost use mathlib.Core.Path.{_≡_};

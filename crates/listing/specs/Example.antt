@@ -1,4 +1,4 @@
--- The book that document 01 lists ("Cards to try"), and its listing to the byte, from the definitions. Assumes nothing.
+-- The example of SPECIFICATION 12.6, and its listing to the byte, from the definitions.
 -- Main: example-listed.
 use mathlib.Core.Path.{_≡_, refl, sym, _∙_, ap}
 use mathlib.Core.Bool.{true}
@@ -9,16 +9,18 @@ use lib.ListN.{take, drop}
 use Rattle.algebra.specs.Linear.{computing}
 use Rattle.algebra.specs.Field.{power, minus}
 use Rattle.algebra.specs.Tests.{any-above}
-use Rattle.refusal.specs.Answers.{number}
+use Rattle.refusal.specs.Replies.{number, refused-with}
 use Rattle.refusal.specs.declared.Refusal.the-variants.{Range}
 use Rattle.rank.specs.Definitions.{at, is-card, difference, columns, subtract, pivot, cleared, rank-with, rank-from, rank, apart}
 use Rattle.coding.specs.Code.{inner, inner-sum, value, word-from, word, is-message, radius}
 use Rattle.book.specs.Layout.{big, big-four, tunes, part-of, body-good, symbols-from, card}
 use Rattle.book.specs.Open.{size-bad, numbers-good, numbers-bad, bodies-good, bodies-bad, open-refusal}
-use Rattle.book.specs.Reading.{bell-of, force-of, delay-of, only, struck, reading}
+use Rattle.rank.specs.Weight.{weight-of, no-weight}
+use Rattle.strike.specs.Strikes.{strike-of}
+use Rattle.book.specs.Reading.{no-value, reading}
 use Rattle.book.specs.Bodies.{delays-from, total-delay}
-use Rattle.book.specs.Cards.{said-range, read-there, there-card}
-use Rattle.book.specs.Strikes.{near-read, word-read}
+use Rattle.book.specs.CardReading.{struck, card-range, read-there, there-card}
+use Rattle.book.specs.ReadBack.{near-read, word-read}
 use Rattle.text.specs.Text.{ascii, decimal-from, decimal, spaced, word-line}
 use Rattle.listing.specs.Listing.{strike-line, refused-line, card-line, card-lines, tune-line, ticks-line, body-text, tune-text, tune-texts, listing}
 use Rattle.listing.specs.Lines.{listing-accepted}
@@ -77,46 +79,47 @@ fourth-range : any-above 728 (card body 4) ≡ true
 unfolding card symbols-from big any-above
 fourth-range = refl
 
-read-first : reading body 1 ≡ struck first-message 0
+read-first : reading body 1 ≡ struck first-message no-weight
 read-first = word-read body 1 good (lit≤ tt) (lit≤ tt) first-message first-whole first-card
 
-read-second : reading body 2 ≡ struck second-message 0
+read-second : reading body 2 ≡ struck second-message no-weight
 read-second = word-read body 2 good (lit≤ tt) (lit≤ tt) second-message second-whole second-card
 
 near-enough : apart (word 2 first-message) (card body 3) ≤ radius 2
 unfolding radius
 near-enough = rw third-apart (lit≤ tt)
 
-read-third : reading body 3 ≡ struck first-message 1
+read-third : reading body 3 ≡ struck first-message (record { rank = 1 })
+unfolding weight-of apart
 read-third =
     near-read body 3 good (lit≤ tt) (lit≤ tt) first-message third-card (record { message = first-whole; within = near-enough })
-    ∙ ap (struck first-message) third-apart
+    ∙ rw third-apart
 
-read-fourth : reading body 4 ≡ only (number Range)
-read-fourth = sym (said-range (card body 4) fourth-range ∙ read-there body 4 good (there-card body 4 (lit≤ tt) (lit≤ tt)))
+read-fourth : reading body 4 ≡ refused-with no-value (number Range)
+read-fourth = sym (card-range (card body 4) fourth-range ∙ read-there body 4 good (there-card body 4 (lit≤ tt) (lit≤ tt)))
 
 -- its lines, in the terms of what is read
 lines : (b : List ℕ) → card-lines 4 b ≡ card-line 1 (reading b 1) ++ card-line 2 (reading b 2) ++ card-line 3 (reading b 3) ++ card-line 4 (reading b 4)
 unfolding card-lines
 lines b = refl
 
-delays : (b : List ℕ) → delays-from 4 1 b ≡ reading b 1 .delay + (reading b 2 .delay + (reading b 3 .delay + (reading b 4 .delay + 0)))
+delays : (b : List ℕ) → let d : ℕ → ℕ = λ n. reading b n .value .strike .delay in delays-from 4 1 b ≡ d 1 + (d 2 + (d 3 + (d 4 + 0)))
 unfolding delays-from
 delays b = refl
 
 total : total-delay body ≡ 1
-unfolding total-delay struck only delay-of at first-message second-message
+unfolding total-delay strike-of at first-message second-message
 total = delays body ∙ rw (read-first, read-second, read-third, read-fourth)
 
-said-lines : card-line 1 (struck first-message 0) ++ card-line 2 (struck second-message 0) ++ card-line 3 (struck first-message 1)
-    ++ card-line 4 (only (number Range)) ++ ticks-line 1
+card-texts : card-line 1 (struck first-message no-weight) ++ card-line 2 (struck second-message no-weight)
+    ++ card-line 3 (struck first-message (record { rank = 1 })) ++ card-line 4 (refused-with no-value (number Range)) ++ ticks-line 1
     ≡ drop 9 example-text
-unfolding card-line strike-line refused-line ticks-line word-line spaced decimal decimal-from struck only bell-of force-of delay-of at first-message second-message
-said-lines = refl
+unfolding card-line strike-line refused-line ticks-line word-line spaced decimal decimal-from strike-of at first-message second-message
+card-texts = refl
 
 body-listed : body-text body ≡ drop 9 example-text
 unfolding body-text
-body-listed = ap (λ (l : List ℕ). l ++ ticks-line (total-delay body)) (lines body) ∙ rw (read-first, read-second, read-third, read-fourth, total) said-lines
+body-listed = ap (λ (l : List ℕ). l ++ ticks-line (total-delay body)) (lines body) ∙ rw (read-first, read-second, read-third, read-fourth, total) card-texts
 
 accepted : open-refusal example ≡ 0
 unfolding open-refusal size-bad numbers-bad numbers-good bodies-bad bodies-good big big-four
@@ -134,6 +137,6 @@ first-line : tune-line 7 4 ≡ take 9 example-text
 unfolding tune-line spaced decimal decimal-from
 first-line = refl
 
--- THE LISTING is what document 01 prints
+-- THE LISTING is the text of the example
 pub example-listed : listing example ≡ example-text
 example-listed = listing-accepted example accepted ∙ one-tune ∙ rw (its-part, body-listed, first-line)

@@ -1,9 +1,9 @@
--- The listing of a tune book as document 01 has it. In reading order.
+-- The listing of a tune book (SPECIFICATION 9). In reading order.
 -- Definitions
 pub mod Listing
 -- How long the texts are
 pub mod Sizes
 -- Laws of the loops over cards and tunes
 pub mod Lines
--- The example of document 01
+-- The example
 pub mod Example

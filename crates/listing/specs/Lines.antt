@@ -1,4 +1,4 @@
--- The lines of cards and tunes so far, in the terms of a loop that counts them; and the kinds of a line. Assumes nothing.
+-- The lines of cards and tunes so far, in the terms of a loop that counts them; and the kinds of a line.
 -- Main: line-strike, line-refused; CardsSo, cards-start, cards-room, cards-next, cards-end; TunesSo, tunes-start, tunes-room, tunes-next,
 -- tunes-end; listing-accepted, listing-refused, opened-refused, answer-within, answer-listed, listing-read.
 use mathlib.Core.Path.{_≡_, refl, sym, _∙_, ap, subst}
@@ -10,35 +10,34 @@ use native.Mathlib.Omega.{arith}
 use lib.ListN.{length, take, length-take}
 use lib.Seq.{take-all}
 use borrow.Author.Tests.{lt-ltb, eq-eqb, ne-eqb}
-use Rattle.refusal.specs.Answers.{number, number-not-zero, told, answer, told-refused, told-value}
+use Rattle.refusal.specs.Replies.{Reply, number, number-not-zero, reply, reply-with, answer-refused, answer-value, unless}
 use Rattle.refusal.specs.declared.Refusal.{Refusal}
 use Rattle.refusal.specs.declared.Refusal.the-variants.{BookSize}
 use Rattle.refusal.specs.declared.Answer.{Answer}
 use Rattle.refusal.specs.declared.Answer.the-variants as answers
-use Rattle.book.specs.declared.reading.Strike.{Strike}
+use Rattle.rank.specs.declared.Weight.{Weight}
+use Rattle.strike.specs.declared.Strike.{Strike}
 use Rattle.book.specs.declared.reading.Reading.{Reading}
 use Rattle.book.specs.declared.reading.Reading.the-variants as readings
 use Rattle.book.specs.Layout.{longest-book, tunes}
 use Rattle.book.specs.Open.{size-bad, open-refusal}
-use Rattle.book.specs.Reading.{Spoken, spoken, only, cards-in, reading}
+use Rattle.book.specs.Reading.{Card-value, read-reply, cards-in, reading}
 use Rattle.book.specs.Bodies.{total-delay}
 use Rattle.book.specs.Accepted.{Accepted}
 use Rattle.book.specs.CardLoops.{Adding, adding-start, adding-next, adding-end}
-use Rattle.codec.specs.Answers.{unless}
 use Rattle.text.specs.Text.{book-refused, written, room-refusal}
 use Rattle.text.specs.Writing.{written-front, Wrote, wrote-none, wrote-then, pieces-room}
 use Rattle.listing.specs.Listing.{strike-line, refused-line, card-line, card-lines, tune-text, tune-texts, listing, longest}
 use Rattle.listing.specs.Sizes.{listing-within}
 
 -- THE TWO KINDS OF A CARD LINE
-pub line-strike : (n : ℕ) (r : Reading) (s : Strike) → r ≡ readings.Strike s
-    → card-line n (spoken r) ≡ strike-line n (s .bell) (s .force) (s .delay) (s .damage)
+pub line-strike : (n : ℕ) (r : Reading) (s : Strike) (d : Weight) → r ≡ readings.Strike s d → card-line n (read-reply r) ≡ strike-line n s d
 unfolding card-line
-line-strike n r s e = rw e
+line-strike n r s d e = rw e
 
 pub line-refused : (n : ℕ) (r : Reading) (why : Refusal) (m : ℕ) → r ≡ readings.Refused why → m ≡ number why
-    → card-line n (spoken r) ≡ refused-line n m
-unfolding card-line only
+    → card-line n (read-reply r) ≡ refused-line n m
+unfolding card-line
 line-refused n r why m e f = rw (e, f, number-not-zero why)
 
 -- CARDS: those before card n were written, and their delays added
@@ -55,7 +54,7 @@ unfolding card-lines
 cards-start body old a h = record { adding = adding-start body; wrote = wrote-none old a h }
 
 module _ {body old : List ℕ} {a : ℕ} {new : List ℕ} {end ticks n : ℕ} (g : CardsSo body old a new end ticks n) where
-  pub cards-room : n ≤ cards-in body → a + length (card-lines (cards-in body) body) ≤ length old → (s : Spoken) → s ≡ reading body n
+  pub cards-room : n ≤ cards-in body → a + length (card-lines (cards-in body) body) ≤ length old → (s : Reply Card-value) → s ≡ reading body n
       → end + length (card-line n s) ≤ length new
   cards-room h r s e =
       let l = g .adding .low in
@@ -64,7 +63,7 @@ module _ {body old : List ℕ} {a : ℕ} {new : List ℕ} {end ticks n : ℕ} (g
       let w = pieces-room (λ k. card-lines k body) line (cards-step body) (n - 1) (cards-in body) (g .wrote) (omega arith) r in
       rw e (subst (λ (m : ℕ). end + length (card-line m (reading body m)) ≤ length new) f w)
 
-  pub cards-next : n ≤ cards-in body → (s : Spoken) → s ≡ reading body n → (d : ℕ) → d ≡ reading body n .delay
+  pub cards-next : n ≤ cards-in body → (s : Reply Card-value) → s ≡ reading body n → (d : ℕ) → d ≡ reading body n .value .strike .delay
       → {next : List ℕ} {after : ℕ} → Wrote new end (card-line n s) next after → CardsSo body old a next after (ticks + d) (n + 1)
   cards-next h s e d f w =
       let l = g .adding .low in
@@ -114,20 +113,20 @@ listing-refused bs n = rw (ne-eqb (open-refusal bs) 0 n)
 
 -- what Open answered decides
 pub opened-refused : (r : Answer) (why : Refusal) (m : ℕ) (bs : List ℕ) → r ≡ answers.Refused why
-    → told r ≡ answer (open-refusal bs) (tunes bs) → m ≡ number why → listing bs ≡ book-refused m
+    → reply r ≡ reply-with 0 (open-refusal bs) (tunes bs) → m ≡ number why → listing bs ≡ book-refused m
 opened-refused r why m bs p e f =
-    let t = told-refused r why (open-refusal bs) (tunes bs) p e in
+    let t = answer-refused r why (open-refusal bs) (tunes bs) p e in
     listing-refused bs (t .1) ∙ ap book-refused (sym (t .0) ∙ sym f)
 
 -- THE ANSWER: as many bytes at the beginning of the text are the listing, and they are within it
-module _ (bs text : List ℕ) (r : Answer) (x : ℕ) (p : r ≡ answers.Value x) (a : told r ≡ answer (room-refusal longest text) (length (listing bs))) where
+module _ (bs text : List ℕ) (r : Answer) (x : ℕ) (p : r ≡ answers.Value x) (a : reply r ≡ reply-with 0 (room-refusal longest text) (length (listing bs))) where
   pub answer-within : x ≤ longest
-  answer-within = omega (arith, listing-within bs, told-value r x (room-refusal longest text) (length (listing bs)) p a .1)
+  answer-within = omega (arith, listing-within bs, answer-value r x (room-refusal longest text) (length (listing bs)) p a .1)
 
   pub answer-listed : (new : List ℕ) → new ≡ unless (room-refusal longest text) (written text 0 (listing bs)) text → take x new ≡ listing bs
   unfolding unless
   answer-listed new e =
-      let t = told-value r x (room-refusal longest text) (length (listing bs)) p a in
+      let t = answer-value r x (room-refusal longest text) (length (listing bs)) p a in
       rw (e, t .0, t .1) (written-front text (listing bs))
 
 -- WHO READS one byte more than a book may have, and leaves the rest unread, lists the same: both are too long, or nothing was left

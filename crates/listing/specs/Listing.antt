@@ -1,27 +1,29 @@
--- The text that lists a tune book (document 01: the listing program), as the list of its bytes. Assumes nothing: these are definitions.
+-- The text that lists a tune book (SPECIFICATION 9), as the list of its bytes.
 -- Main: card-line, card-lines, tune-text, tune-texts, listing, longest.
 use mathlib.Core.Bool.{cond}
 use mathlib.Core.List.{List, [], _++_}
 use Prim.Native.Nat.{ℕ, zero, suc}
 use lib.Dec.{eqb}
+use Rattle.refusal.specs.Replies.{Reply}
+use Rattle.rank.specs.declared.Weight.{Weight}
+use Rattle.strike.specs.declared.Strike.{Strike}
 use Rattle.book.specs.Layout.{tunes, tune-number, cards, part-of}
 use Rattle.book.specs.Open.{open-refusal}
-use Rattle.book.specs.Reading.{Spoken, cards-in, reading}
+use Rattle.book.specs.Reading.{Card-value, cards-in, reading}
 use Rattle.book.specs.Bodies.{total-delay}
 use Rattle.text.specs.Text.{ascii, line-end, decimal, spaced, word-line, book-refused}
 
 -- CARD LINES: card, bell, force, delay, rank of damage
-unfoldable pub strike-line : (n : ℕ) → (bell force delay damage : ℕ) → List ℕ
-strike-line n b f d r = decimal n ++ spaced b ++ spaced f ++ spaced d ++ spaced r ++ line-end
+unfoldable pub strike-line : (n : ℕ) → Strike → (damage : Weight) → List ℕ
+strike-line n s d = decimal n ++ spaced (s .bell) ++ spaced (s .force) ++ spaced (s .delay) ++ spaced (d .rank) ++ line-end
 
 -- or card and refusal
 unfoldable pub refused-line : (n : ℕ) → (refusal : ℕ) → List ℕ
 refused-line n m = decimal n ++ ascii " refused" ++ spaced m ++ line-end
 
 -- of card n, of which this is said
-unfoldable pub card-line : (n : ℕ) → Spoken → List ℕ
-card-line n s =
-    cond (eqb (s .refusal) 0) (strike-line n (s .bell) (s .force) (s .delay) (s .damage)) (refused-line n (s .refusal))
+unfoldable pub card-line : (n : ℕ) → Reply Card-value → List ℕ
+card-line n r = cond (eqb (r .refusal) 0) (strike-line n (r .value .strike) (r .value .damage)) (refused-line n (r .refusal))
 
 -- of the first k cards of a body
 unfoldable pub card-lines : (k : ℕ) → (body : List ℕ) → List ℕ

@@ -1,4 +1,4 @@
--- How long the texts are: no listing is longer than `longest`. Assumes nothing.
+-- How long the texts are: no listing is longer than `longest`.
 -- Main: strike-line-length, refused-line-length, tune-line-length, ticks-line-length, body-text-length, tune-text-length; listing-within.
 use mathlib.Core.Path.{_≡_, refl}
 use mathlib.Core.Bool.{Bool, true, false, cond}
@@ -11,7 +11,10 @@ use lib.ListN.{length, length-append}
 use borrow.Author.Tests.{eqb-true}
 use Rattle.book.specs.Layout.{tunes, contents-end, tune-number, cards, part-of}
 use Rattle.book.specs.Open.{open-refusal}
-use Rattle.book.specs.Reading.{Spoken, cards-in, reading}
+use Rattle.refusal.specs.Replies.{Reply}
+use Rattle.rank.specs.declared.Weight.{Weight}
+use Rattle.strike.specs.declared.Strike.{Strike}
+use Rattle.book.specs.Reading.{Card-value, cards-in, reading}
 use Rattle.book.specs.Bodies.{total-delay}
 use Rattle.book.specs.Accepted.{Accepted, book-within, body-start, bodies-fill, part-length, cards-some, number-range, part-good}
 use Rattle.book.specs.Bounds.{Bounded, reading-bounded, total-bounded, open-bounded}
@@ -21,10 +24,10 @@ use Rattle.text.specs.Decimal.{one-digit, two-digits, three-digits, four-digits
 use Rattle.listing.specs.Listing.{strike-line, refused-line, card-line, card-lines, tune-line, ticks-line, body-text, tune-text, tune-texts, listing, longest}
 
 -- LENGTHS of the lines, part by part
-pub strike-line-length : (n b f d r : ℕ)
-    → length (strike-line n b f d r) ≡ length (decimal n) + length (spaced b) + length (spaced f) + length (spaced d) + length (spaced r) + 1
+pub strike-line-length : (n : ℕ) (s : Strike) (d : Weight)
+    → length (strike-line n s d) ≡ length (decimal n) + length (spaced (s .bell)) + length (spaced (s .force)) + length (spaced (s .delay)) + length (spaced (d .rank)) + 1
 unfolding strike-line
-strike-line-length n b f d r = simp length-append
+strike-line-length n s d = simp length-append
 
 pub refused-line-length : (n m : ℕ) → length (refused-line n m) ≡ length (decimal n) + 8 + length (spaced m) + 1
 unfolding refused-line
@@ -48,25 +51,27 @@ unfolding tune-text
 tune-text-length bs e = simp length-append
 
 -- A CARD LINE has at most 17 bytes, as card numbers have at most four digits
-strike-line-short : (n b f d r : ℕ) → n < 10000 → b < 27 → f < 27 → d ≤ 728 → r ≤ 6 → length (strike-line n b f d r) ≤ 17
-strike-line-short n b f d r hn hb hf hd hr =
-    let number = four-digits n hn in
-    let bell = two-digits b (omega arith) in
-    let force = two-digits f (omega arith) in
-    let delay = three-digits d (omega arith) in
-    let damage = one-digit r (omega arith) in
-    omega (arith, strike-line-length n b f d r, spaced-length b, spaced-length f, spaced-length d, spaced-length r)
+strike-line-short : (n : ℕ) (r : Reply Card-value) → n < 10000 → Bounded r → length (strike-line n (r .value .strike) (r .value .damage)) ≤ 17
+strike-line-short n r h l =
+    let s = r .value .strike in
+    let d = r .value .damage in
+    let number = four-digits n h in
+    let bell = two-digits (s .bell) (omega (arith, l .bell)) in
+    let force = two-digits (s .force) (omega (arith, l .force)) in
+    let delay = three-digits (s .delay) (omega (arith, l .delay)) in
+    let damage = one-digit (d .rank) (omega (arith, l .damage)) in
+    omega (arith, strike-line-length n s d, spaced-length (s .bell), spaced-length (s .force), spaced-length (s .delay), spaced-length (d .rank))
 
 refused-line-short : (n m : ℕ) → n < 10000 → m < 100 → length (refused-line n m) ≤ 17
 refused-line-short n m hn hm = omega (arith, refused-line-length n m, four-digits n hn, spaced-length m, two-digits m hm)
 
-card-line-short : (n : ℕ) (s : Spoken) → n < 10000 → Bounded s → length (card-line n s) ≤ 17
+card-line-short : (n : ℕ) (r : Reply Card-value) → n < 10000 → Bounded r → length (card-line n r) ≤ 17
 unfolding card-line
-card-line-short n s h l = go (eqb (s .refusal) 0)
+card-line-short n r h l = go (eqb (r .refusal) 0)
   where
-    go : (b : Bool) → length (cond b (strike-line n (s .bell) (s .force) (s .delay) (s .damage)) (refused-line n (s .refusal))) ≤ 17
-    go true = strike-line-short n (s .bell) (s .force) (s .delay) (s .damage) h (l .bell) (l .force) (l .delay) (l .damage)
-    go false = refused-line-short n (s .refusal) h (l .refusal)
+    go : (b : Bool) → length (cond b (strike-line n (r .value .strike) (r .value .damage)) (refused-line n (r .refusal))) ≤ 17
+    go true = strike-line-short n r h l
+    go false = refused-line-short n (r .refusal) h (l .refusal)
 
 card-lines-short : (k : ℕ) (bs : List ℕ) → k < 10000 → length (card-lines k bs) ≤ 17 * k
 unfolding card-lines
@@ -118,7 +123,7 @@ module _ (bs : List ℕ) (a : Accepted bs) where
       let s = tune-texts-short (tunes bs) (omega arith) in
       omega (arith, bodies-fill bs a, book-within bs a)
 
--- A REFUSED BOOK is told in one short line
+-- A REFUSED BOOK is one short line
 refused-within : (bs : List ℕ) → length (book-refused (open-refusal bs)) ≤ longest
 refused-within bs =
     let m = open-refusal bs in

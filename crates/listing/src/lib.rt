@@ -1,5 +1,5 @@
-// The text that lists a tune book, written into a list that the caller lends (document 01: the listing program).
-// Assumes nothing.
+// The text that lists a tune book, written into a list that the caller lends (SPECIFICATION 8.12).
+//
 mod lines;
 mod tunes;
 

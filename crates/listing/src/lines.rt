@@ -1,27 +1,27 @@
 // The lines of a listing, each written from a place on. Each function answers the next place.
-// Assumes nothing: each asks that there is room.
 ghost use Prim.Native.Nat.{_+_, _≤_};
 ghost use lib.ListN.{length};
-ghost use Rattle.book.specs.Reading.{spoken};
+ghost use Rattle.book.specs.Reading.{read-reply};
 ghost use Rattle.listing.specs.Listing.{strike-line, refused-line, card-line, tune-line, ticks-line};
 ghost use Rattle.text.specs.Writing.{Wrote};
 use book::Reading;
-use book::Strike;
+use rank::Weight;
+use strike::Strike;
 use text::write_byte;
 use text::write_decimal;
 use text::write_spaced;
 use text::write_word;
 
 // The line of a card that was read: card, bell, force, delay, rank of damage.
-fn write_strike(text: &mut [u8], at: usize, n: u32, s: Strike) -> usize
-    requires { ⌜ at + length (strike-line n (s .bell) (s .force) (s .delay) (s .damage)) ≤ length (now text) ⌝ }
-    ensures { λ r. ⌜ Wrote (now (text .entry)) at (strike-line n (s .bell) (s .force) (s .delay) (s .damage)) (now (text .exit)) r ⌝ }
+fn write_strike(text: &mut [u8], at: usize, n: u32, s: Strike, damage: Weight) -> usize
+    requires { ⌜ at + length (strike-line n s damage) ≤ length (now text) ⌝ }
+    ensures { λ r. ⌜ Wrote (now (text .entry)) at (strike-line n s damage) (now (text .exit)) r ⌝ }
 {
     let number_end = write_decimal(text, at, n);
     let bell_end = write_spaced(text, number_end, s.bell);
     let force_end = write_spaced(text, bell_end, s.force);
     let delay_end = write_spaced(text, force_end, s.delay);
-    let damage_end = write_spaced(text, delay_end, s.damage);
+    let damage_end = write_spaced(text, delay_end, damage.rank);
     write_byte(text, damage_end, b'\n')
 }
 
@@ -38,11 +38,11 @@ fn write_refused_card(text: &mut [u8], at: usize, n: u32, refusal: u32) -> usize
 
 // The line of a card.
 pub(crate) fn write_card(text: &mut [u8], at: usize, n: u32, read: Reading) -> usize
-    requires { ⌜ at + length (card-line n (spoken read)) ≤ length (now text) ⌝ }
-    ensures { λ r. ⌜ Wrote (now (text .entry)) at (card-line n (spoken read)) (now (text .exit)) r ⌝ }
+    requires { ⌜ at + length (card-line n (read-reply read)) ≤ length (now text) ⌝ }
+    ensures { λ r. ⌜ Wrote (now (text .entry)) at (card-line n (read-reply read)) (now (text .exit)) r ⌝ }
 {
     match read {
-        Reading::Strike(s) => write_strike(text, at, n, s),
+        Reading::Strike(s, damage) => write_strike(text, at, n, s, damage),
         Reading::Refused(why) => write_refused_card(text, at, n, refusal::number(why)),
     }
 }

@@ -1,11 +1,9 @@
 // The listing of a book, tune by tune. The book is opened once, and each card is decoded once.
-// Assumes nothing: what is asked is asked in a `requires`.
 ghost use mathlib.Core.Path.{_≡_};
 ghost use mathlib.Core.Bool.{true};
 ghost use Prim.Native.Nat.{_+_, _≤_};
 ghost use lib.ListN.{length};
-ghost use Rattle.refusal.specs.Answers.{told, answer};
-ghost use Rattle.codec.specs.Answers.{unless};
+ghost use Rattle.refusal.specs.Replies.{reply, reply-with, unless};
 ghost use Rattle.book.specs.Layout.{tunes, body-good};
 ghost use Rattle.book.specs.Reading.{cards-in};
 ghost use Rattle.book.specs.Bodies.{total-delay};
@@ -99,10 +97,10 @@ fn write_all(book: &[u8], text: &mut [u8]) -> usize
     }
 }
 
-// The listing of a book (document 01: the listing program) at the start of `text`, and how many bytes it has; or refusal 2, if `text` is
+// The listing of a book at the start of `text`, and how many bytes it has; or refusal 2, if `text` is
 // shorter than the longest listing.
 pub fn write_listing(book: &[u8], text: &mut [u8]) -> Answer
-    ensures { λ r. ⌜ told r ≡ answer (room-refusal longest (now (text .entry))) (length (listing (now (book .entry)))) ⌝ }
+    ensures { λ r. ⌜ reply r ≡ reply-with 0 (room-refusal longest (now (text .entry))) (length (listing (now (book .entry)))) ⌝ }
     ensures { λ r. ⌜ now (text .exit) ≡ unless (room-refusal longest (now (text .entry))) (written (now (text .entry)) 0 (listing (now (book .entry)))) (now (text .entry)) ⌝ }
 {
     if text.len() < LONGEST {

@@ -1,4 +1,4 @@
--- Arrays of six: a list of six is its entries, as the code writes them out. And arrays of digits. Assumes nothing.
+-- Arrays of six: a list of six is its entries, as the code writes them out. And arrays of digits.
 -- Main: six, subtract-six, zeros-rank, product-of-digits, product-with-digit, subtract-settles, set-settles, swap-settles, taken-set,
 -- taken-swap.
 use mathlib.Core.Path.{_≡_, refl, sym, ap, ap₂, _∙_}

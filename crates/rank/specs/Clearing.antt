@@ -1,5 +1,5 @@
 -- Clearing: a symbol less the multiple of another that leaves digit i zero, on symbols and on their columns of digits. Cleared digit by
--- digit a symbol becomes zero, and clearing keeps what lies in a span. Assumes nothing.
+-- digit a symbol becomes zero, and clearing keeps what lies in a span.
 -- Main: clear, subtract-digits, columns-clear, zero-before-clear, zero-before-all, span-clear, span-unclear.
 use mathlib.Core.Path.{_≡_, refl, sym, ap, _∙_}
 use mathlib.Core.Logic.{_≢_}

@@ -1,5 +1,4 @@
--- Cards, the rank of a card, and the difference of two (document 01: Code; the definitions are document 03's). Assumes nothing: these are
--- definitions.
+-- Cards, the rank of a card, and the difference of two (SPECIFICATION 3).
 use mathlib.Core.Bool.{Bool, cond, _&&_, not}
 use mathlib.Core.List.{List, [], _∷_}
 use mathlib.Core.Option.{Option, none, some}

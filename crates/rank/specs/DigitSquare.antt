@@ -1,4 +1,4 @@
--- The square of a card, row by row: its rows are the digits of the symbols of the card's transpose. Assumes nothing.
+-- The square of a card, row by row: its rows are the digits of the symbols of the card's transpose.
 -- Main: square-six, square-row, square-settled.
 use mathlib.Core.Path.{_≡_, refl, sym, ap, _∙_}
 use mathlib.Core.List.{List, []}

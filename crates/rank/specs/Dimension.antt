@@ -1,4 +1,4 @@
--- Dimension: independent symbols are at most as many as symbols that span them. Assumes nothing.
+-- Dimension: independent symbols are at most as many as symbols that span them.
 -- Main: span-less, at-most.
 use mathlib.Core.Path.{_≡_, refl, ap}
 use mathlib.Core.List.{List, [], _∷_}

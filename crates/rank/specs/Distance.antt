@@ -1,4 +1,4 @@
--- The rank of the difference of two cards is a metric, and at most 6. Assumes nothing.
+-- The rank of the difference of two cards is a metric, and at most 6.
 -- Main: rank-even, apart-sym, apart-self, apart-zero, apart-triangle.
 use mathlib.Core.Path.{_≡_, refl, sym, ap, _∙_}
 use mathlib.Core.Bool.{true}

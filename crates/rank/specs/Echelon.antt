@@ -1,5 +1,5 @@
 -- The rank that elimination counts: it leaves as many independent symbols, with the span of the card's symbols. So the rank is the least
--- number of symbols that span them: a card of rank t lies in the span of t independent symbols, and of no fewer. Assumes nothing.
+-- number of symbols that span them: a card of rank t lies in the span of t independent symbols, and of no fewer.
 -- Main: rank-echelon, rank-least, rank-is-least, least-is-rank, rank-zero, zero-rank, rank-at-most, at-most-six.
 use mathlib.Core.Path.{_≡_, refl, ap, _∙_}
 use mathlib.Core.Logic.{_≢_}

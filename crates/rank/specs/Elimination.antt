@@ -1,8 +1,7 @@
--- Row elimination on the square of digits of a card (document 01: "The card is a square of six rows and six columns of digits"), as the code
+-- Row elimination on the square of digits of a card (SPECIFICATION 3.1), as the code
 -- does it: columns go from 0 to 5; of the rows not yet chosen the one in the lowest place with a digit not 0 is chosen and exchanged into
 -- the next place, and from each row below that has a digit not 0 there the multiple of it that clears that digit is subtracted. A column
--- without such a row is passed over. The trace says what was chosen and how many subtractions that took. Assumes nothing: these are
--- definitions.
+-- without such a row is passed over. The pivot log says what was chosen and how many subtractions that took.
 use mathlib.Core.Path.{_≡_}
 use mathlib.Core.Bool.{Bool, true, false, cond}
 use mathlib.Core.List.{List, [], _∷_, map}
@@ -36,12 +35,12 @@ unfoldable pub DigitRows : List (List ℕ) → Type 0
 DigitRows m = (i : ℕ) → Digits (getD m i [])
 
 -- the first of the n places from place i on where a column is not 0; the place after them if there is none
-unfoldable pub first-from : (left i : ℕ) → List ℕ → ℕ
-first-from zero i c = i
-first-from (suc n) i c = cond (eqb (getD c i 0) 0) (first-from n (suc i) c) i
+unfoldable pub nonzero-from : (left i : ℕ) → List ℕ → ℕ
+nonzero-from zero i c = i
+nonzero-from (suc n) i c = cond (eqb (getD c i 0) 0) (nonzero-from n (suc i) c) i
 
-unfoldable pub first : (i : ℕ) → List ℕ → ℕ
-first i c = first-from (6 - i) i c
+unfoldable pub first-nonzero : (i : ℕ) → List ℕ → ℕ
+first-nonzero i c = nonzero-from (6 - i) i c
 
 -- THE PIVOT: the first of the n rows from row i on that is not 0 in column j; the row after them if there is none
 unfoldable pub pivot-from : (left i j : ℕ) → List (List ℕ) → ℕ
@@ -75,8 +74,8 @@ unfoldable pub clear-on : (i j : ℕ) → (p : List ℕ) → List (List ℕ) →
 clear-on i j p m = clear-from (6 - i) i j p m
 
 -- row f is taken out at place r, and clears the rows below
-unfoldable pub step : (r f j : ℕ) → List (List ℕ) → List (List ℕ)
-step r f j m = clear-on (suc r) j (getD m f []) (swap-rows r f m)
+unfoldable pub clear-step : (r f j : ℕ) → List (List ℕ) → List (List ℕ)
+clear-step r f j m = clear-on (suc r) j (getD m f []) (swap-rows r f m)
 
 -- how many of the n rows from row i on are not 0 in column j
 unfoldable pub count-from : (left i j : ℕ) → List (List ℕ) → ℕ
@@ -94,21 +93,21 @@ pub record Chosen : Type 0 where
 unfoldable pub choice : (r f j : ℕ) → List (List ℕ) → Chosen
 choice r f j m = record { column = j; subtractions = count-on (suc r) j (swap-rows r f m) }
 
-unfoldable pub trace-with : Bool → (on : ℕ → List (List ℕ) → List Chosen) → (r f j : ℕ) → List (List ℕ) → List Chosen
-trace-with true on r f j m = choice r f j m ∷ on (suc r) (step r f j m)
-trace-with false on r f j m = on r m
+unfoldable pub pivot-log-with : Bool → (on : ℕ → List (List ℕ) → List Chosen) → (r f j : ℕ) → List (List ℕ) → List Chosen
+pivot-log-with true on r f j m = choice r f j m ∷ on (suc r) (clear-step r f j m)
+pivot-log-with false on r f j m = on r m
 
 -- n columns from column j on, with r rows chosen before
-unfoldable pub trace-from : (left j r : ℕ) → List (List ℕ) → List Chosen
-trace-from zero j r m = []
-trace-from (suc n) j r m = trace-with (ltb (pivot-row r j m) 6) (λ s k. trace-from n (suc j) s k) r (pivot-row r j m) j m
+unfoldable pub pivot-log-from : (left j r : ℕ) → List (List ℕ) → List Chosen
+pivot-log-from zero j r m = []
+pivot-log-from (suc n) j r m = pivot-log-with (ltb (pivot-row r j m) 6) (λ s k. pivot-log-from n (suc j) s k) r (pivot-row r j m) j m
 
 -- the columns from column j on
-unfoldable pub trace-on : (j r : ℕ) → List (List ℕ) → List Chosen
-trace-on j r m = trace-from (6 - j) j r m
+unfoldable pub pivot-log-on : (j r : ℕ) → List (List ℕ) → List Chosen
+pivot-log-on j r m = pivot-log-from (6 - j) j r m
 
-unfoldable pub trace : List (List ℕ) → List Chosen
-trace m = trace-on 0 0 m
+unfoldable pub pivot-log : List (List ℕ) → List Chosen
+pivot-log m = pivot-log-on 0 0 m
 
 -- READINGS of it: the chosen columns as bits, and the subtractions
 unfoldable pub mask-of : List Chosen → ℕ

@@ -1,5 +1,5 @@
 -- The rank of a list of symbols and one more: it grows by 1 exactly if the new symbol lies outside the span of the others, which is decided.
--- Assumes nothing.
+--
 -- Main: rank-grows, rank-grows-little, rank-inside, rank-outside, decide-span.
 use mathlib.Core.Path.{_≡_, sym, ap, _∙_}
 use mathlib.Core.List.{List, [], _∷_, _++_}

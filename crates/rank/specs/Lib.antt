@@ -1,5 +1,5 @@
--- The rank of a card (document 01: Code, Weigh). In reading order.
--- Definitions (document 03)
+-- The rank of a card (SPECIFICATION 3 and 8.2). In reading order.
+-- Definitions
 pub mod Definitions
 -- The theory: independent symbols and spans, the rank as the least number of spanning symbols, the metric, one symbol more, the transpose
 pub mod Dimension

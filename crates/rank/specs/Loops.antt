@@ -1,5 +1,5 @@
--- One turn of each loop of the code, in the code's terms. Assumes nothing.
--- Main: first-none, first-some, column-first, pivot-after, clear-next, trace-passed, trace-chosen, above-next, above-here, and the ends of the loops.
+-- One turn of each loop of the code, in the code's terms.
+-- Main: nonzero-next, nonzero-here, column-nonzero, pivot-after, clear-next, pivot-log-passed, pivot-log-chosen, and the ends of the loops.
 use mathlib.Core.Path.{_≡_, refl, ap, ap₂, _∙_}
 use mathlib.Core.Logic.{_≢_}
 use mathlib.Core.Bool.{Bool, true, false, cond}
@@ -8,13 +8,11 @@ use Prim.Native.Nat.{ℕ, zero, suc, _+_, _-_, _≤_, _<_}
 use native.Mathlib.Numerals.{add-one}
 use native.Mathlib.Omega.{arith}
 use lib.Dec.{eqb}
-use lib.ListN.{length, getD, set, drop, drop-of-length-le}
-use lib.Seq.{drop-cons}
+use lib.ListN.{getD, set}
 use borrow.Author.Tests.{eq-eqb, ne-eqb, lt-ltb, le-ltb}
 use Rattle.algebra.specs.Lists.{table, at-table}
-use Rattle.algebra.specs.Tests.{any-above}
-use Rattle.rank.specs.Elimination.{entry, first-from, first, pivot-from, pivot-row, swap-rows, Taken, clear-row, clear-from, clear-on, step}
-use Rattle.rank.specs.Elimination.{choice, trace-with, trace-from, trace-on}
+use Rattle.rank.specs.Elimination.{entry, nonzero-from, first-nonzero, pivot-from, pivot-row, swap-rows, Taken, clear-row, clear-from, clear-on, clear-step}
+use Rattle.rank.specs.Elimination.{choice, pivot-log-with, pivot-log-from, pivot-log-on}
 
 -- a loop from i to 5: one more turn, or none
 more : (i : ℕ) → i < 6 → 6 - i ≡ suc (6 - suc i)
@@ -25,32 +23,32 @@ done i h = omega arith
 
 -- THE PIVOT: a column from place i on
 module _ (i : ℕ) (c : List ℕ) where
-  pub first-none : i < 6 → getD c i 0 ≡ 0 → first i c ≡ first (i + 1) c
-  unfolding first first-from
-  first-none h e = rw (more i h, add-one, eq-eqb (getD c i 0) 0 e) refl
+  pub nonzero-next : i < 6 → getD c i 0 ≡ 0 → first-nonzero i c ≡ first-nonzero (i + 1) c
+  unfolding first-nonzero nonzero-from
+  nonzero-next h e = rw (more i h, add-one, eq-eqb (getD c i 0) 0 e) refl
 
-  pub first-some : i < 6 → getD c i 0 ≢ 0 → first i c ≡ i
-  unfolding first first-from
-  first-some h n = rw (more i h, ne-eqb (getD c i 0) 0 n) refl
+  pub nonzero-here : i < 6 → getD c i 0 ≢ 0 → first-nonzero i c ≡ i
+  unfolding first-nonzero nonzero-from
+  nonzero-here h n = rw (more i h, ne-eqb (getD c i 0) 0 n) refl
 
-  pub first-end : 6 ≤ i → first i c ≡ i
-  unfolding first first-from
-  first-end h = rw (done i h) refl
+  pub nonzero-end : 6 ≤ i → first-nonzero i c ≡ i
+  unfolding first-nonzero nonzero-from
+  nonzero-end h = rw (done i h) refl
 
-first-skip : (r : ℕ) (c : List ℕ) → r ≤ 6 → ((i : ℕ) → i < r → getD c i 0 ≡ 0) → first 0 c ≡ first r c
-first-skip zero c h z = refl
-first-skip (suc r) c h z =
-    first-skip r c (omega arith) (λ i l. z i (omega arith)) ∙ first-none r c (omega arith) (z r (omega arith)) ∙ ap (λ i. first i c) (add-one r)
+nonzero-skip : (r : ℕ) (c : List ℕ) → r ≤ 6 → ((i : ℕ) → i < r → getD c i 0 ≡ 0) → first-nonzero 0 c ≡ first-nonzero r c
+nonzero-skip zero c h z = refl
+nonzero-skip (suc r) c h z =
+    nonzero-skip r c (omega arith) (λ i l. z i (omega arith)) ∙ nonzero-next r c (omega arith) (z r (omega arith)) ∙ ap (λ i. first-nonzero i c) (add-one r)
 
 -- a column of a square has the square's pivot, if the rows chosen before are taken out
-pub column-first : (r j : ℕ) (m : List (List ℕ)) → r ≤ 6 → Taken r m → first 0 (table 6 (λ i. entry m i j)) ≡ pivot-row r j m
-unfolding first first-from pivot-row pivot-from Taken
-column-first r j m h t = first-skip r c h (λ i l. at-table 6 (λ i. entry m i j) i (omega arith) ∙ t i l j) ∙ go (6 - r) r (omega arith)
+pub column-nonzero : (r j : ℕ) (m : List (List ℕ)) → r ≤ 6 → Taken r m → first-nonzero 0 (table 6 (λ i. entry m i j)) ≡ pivot-row r j m
+unfolding first-nonzero nonzero-from pivot-row pivot-from Taken
+column-nonzero r j m h t = nonzero-skip r c h (λ i l. at-table 6 (λ i. entry m i j) i (omega arith) ∙ t i l j) ∙ go (6 - r) r (omega arith)
   where
     c : List ℕ
     c = table 6 (λ i. entry m i j)
 
-    go : (n i : ℕ) → i + n ≡ 6 → first-from n i c ≡ pivot-from n i j m
+    go : (n i : ℕ) → i + n ≡ 6 → nonzero-from n i c ≡ pivot-from n i j m
     go zero i e = refl
     go (suc n) i e = ap₂ (λ (d f : ℕ). cond (eqb d 0) f i) (at-table 6 (λ i. entry m i j) i (omega arith)) (go n (suc i) (omega arith))
 
@@ -68,9 +66,9 @@ pivot-after r j m = go (6 - r) r
         by false f h = omega arith
 
 -- THE ROWS BELOW
-pub step-clears : (r f j : ℕ) (m : List (List ℕ)) → step r f j m ≡ clear-on (r + 1) j (getD m f []) (swap-rows r f m)
-unfolding step
-step-clears r f j m = rw (add-one r) refl
+pub clear-step-on : (r f j : ℕ) (m : List (List ℕ)) → clear-step r f j m ≡ clear-on (r + 1) j (getD m f []) (swap-rows r f m)
+unfolding clear-step
+clear-step-on r f j m = rw (add-one r) refl
 
 module _ (i j : ℕ) (p : List ℕ) (m : List (List ℕ)) where
   pub clear-next : i < 6 → clear-on i j p m ≡ clear-on (i + 1) j p (set m i (clear-row j p (getD m i [])))
@@ -83,29 +81,15 @@ module _ (i j : ℕ) (p : List ℕ) (m : List (List ℕ)) where
 
 -- THE COLUMNS
 module _ (j r : ℕ) (m : List (List ℕ)) where
-  pub trace-passed : j < 6 → 6 ≤ pivot-row r j m → trace-on j r m ≡ trace-on (j + 1) r m
-  unfolding trace-on trace-from trace-with
-  trace-passed h l = rw (more j h, add-one, le-ltb (pivot-row r j m) 6 l) refl
+  pub pivot-log-passed : j < 6 → 6 ≤ pivot-row r j m → pivot-log-on j r m ≡ pivot-log-on (j + 1) r m
+  unfolding pivot-log-on pivot-log-from pivot-log-with
+  pivot-log-passed h l = rw (more j h, add-one, le-ltb (pivot-row r j m) 6 l) refl
 
-  pub trace-chosen : j < 6 → pivot-row r j m < 6
-      → trace-on j r m ≡ choice r (pivot-row r j m) j m ∷ trace-on (j + 1) (r + 1) (step r (pivot-row r j m) j m)
-  unfolding trace-on trace-from trace-with
-  trace-chosen h l = rw (more j h, add-one j, add-one r, lt-ltb (pivot-row r j m) 6 l) refl
+  pub pivot-log-chosen : j < 6 → pivot-row r j m < 6
+      → pivot-log-on j r m ≡ choice r (pivot-row r j m) j m ∷ pivot-log-on (j + 1) (r + 1) (clear-step r (pivot-row r j m) j m)
+  unfolding pivot-log-on pivot-log-from pivot-log-with
+  pivot-log-chosen h l = rw (more j h, add-one j, add-one r, lt-ltb (pivot-row r j m) 6 l) refl
 
-  pub trace-end : 6 ≤ j → trace-on j r m ≡ []
-  unfolding trace-on trace-from
-  trace-end h = rw (done j h) refl
-
--- THE NUMBERS of a list, those above h
-module _ (h i : ℕ) (c : List ℕ) where
-  pub above-next : i < length c → getD c i 0 ≤ h → any-above h (drop i c) ≡ any-above h (drop (i + 1) c)
-  unfolding any-above
-  above-next l e = rw (add-one, drop-cons c i 0 l, le-ltb h (getD c i 0) e) refl
-
-  pub above-here : i < length c → h < getD c i 0 → any-above h (drop i c) ≡ true
-  unfolding any-above
-  above-here l e = rw (drop-cons c i 0 l, lt-ltb h (getD c i 0) e) refl
-
-  pub above-end : length c ≤ i → any-above h (drop i c) ≡ false
-  unfolding any-above
-  above-end l = rw (drop-of-length-le c l) refl
+  pub pivot-log-end : 6 ≤ j → pivot-log-on j r m ≡ []
+  unfolding pivot-log-on pivot-log-from
+  pivot-log-end h = rw (done j h) refl

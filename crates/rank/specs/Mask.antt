@@ -1,5 +1,5 @@
 -- The mask of the chosen columns: bit j is set exactly if symbol j lies outside the span of those before it, and the set bits number the rank.
--- Assumes nothing.
+--
 -- Main: mask, mask-bit, mask-tells, mask-clear, mask-counts.
 use mathlib.Core.Path.{_≡_, refl, ap, _∙_}
 use mathlib.Core.List.{List, []}
@@ -12,12 +12,12 @@ use Rattle.algebra.specs.Combinations.{Span}
 use Rattle.rank.specs.Definitions.{at, rank}
 use Rattle.rank.specs.Echelon.{rank-least}
 use Rattle.rank.specs.Extension.{rank-grows, rank-grows-little, rank-inside, rank-outside, decide-span}
-use Rattle.rank.specs.Elimination.{trace, square, mask-of}
+use Rattle.rank.specs.Elimination.{pivot-log, square, mask-of}
 use Rattle.rank.specs.PivotColumns.{gain, gains, rank-take-suc, mask-gains}
 
 -- the chosen columns of a card, as bits
 abbrev pub mask : List ℕ → ℕ
-mask c = mask-of (trace (square c))
+mask c = mask-of (pivot-log (square c))
 
 -- how many of the n bits of v from bit j on are set
 unfoldable pub ones : (left j : ℕ) → (v : ℕ) → ℕ

@@ -1,5 +1,5 @@
 -- The chosen columns: each symbol in a chosen column lies outside the span of those before it, and the chosen rows span all rows. So they are
--- as many as the rank, and the mask has a bit where the rank of the first symbols grows. Assumes nothing.
+-- as many as the rank, and the mask has a bit where the rank of the first symbols grows.
 -- Main: chosen-rank, mask-gains.
 use mathlib.Core.Path.{_≡_, refl, sym, ap, _∙_}
 use mathlib.Core.Logic.{_≢_}
@@ -16,10 +16,10 @@ use Rattle.rank.specs.Echelon.{rank-least}
 use Rattle.rank.specs.Extension.{rank-grows, rank-outside}
 use Rattle.rank.specs.Transpose.{transpose, transpose-is, transposed-spans}
 use Rattle.rank.specs.Separation.{separates}
-use Rattle.rank.specs.Elimination.{step, Chosen, choice, trace-from, trace-on, trace, square, mask-of}
+use Rattle.rank.specs.Elimination.{clear-step, Chosen, choice, pivot-log-from, pivot-log-on, pivot-log, square, mask-of}
 use Rattle.rank.specs.Rows.{RowsFrom, span-digits}
 use Rattle.rank.specs.DigitSquare.{square-six, square-row}
-use Rattle.rank.specs.PivotRows.{Remaining, trace-step, row-digit, column-passed, row-chosen, rows-spanned}
+use Rattle.rank.specs.PivotRows.{Remaining, pivot-log-step, row-digit, column-passed, row-chosen, rows-spanned}
 
 -- BY HOW much the rank of the first symbols grows with symbol j
 unfoldable pub gain : (c : List ℕ) → (j : ℕ) → ℕ
@@ -30,7 +30,7 @@ unfoldable pub gains : (c : List ℕ) → (left j : ℕ) → ℕ
 gains c zero j = 0
 gains c (suc n) j = 2 ^ j * gain c j + gains c n (suc j)
 
--- a trace of the columns from j on is no longer than what the rank still gains, and if as long, then its columns are those of the gains
+-- a pivot log of the columns from j on is no longer than what the rank still gains, and if as long, then its columns are those of the gains
 record Fits (c : List ℕ) (n j : ℕ) (t : List Chosen) : Type 0 where
   within : length t + rank (take j c) ≤ rank c
   exact : length t + rank (take j c) ≡ rank c → mask-of t ≡ gains c n j
@@ -40,11 +40,11 @@ module _ (c : List ℕ) (six : length c ≡ 6) where
   unfolding at
   rank-take-suc j h = ap rank (take-suc c j 0 (omega arith))
 
-  fits : (n j r : ℕ) (m : List (List ℕ)) → j + n ≡ 6 → r ≤ 6 → RowsFrom (Remaining (transpose c) j) r m → Fits c n j (trace-from n j r m)
-  unfolding trace-from gains gain mask-of choice transpose
+  fits : (n j r : ℕ) (m : List (List ℕ)) → j + n ≡ 6 → r ≤ 6 → RowsFrom (Remaining (transpose c) j) r m → Fits c n j (pivot-log-from n j r m)
+  unfolding pivot-log-from gains gain mask-of choice transpose
   fits zero j r m e h u = record { within = omega (arith, ap rank (take-all j c (omega arith))); exact = λ q. refl }
   fits (suc n) j r m e h u =
-      trace-step (Fits c (suc n) j) n j r m h
+      pivot-log-step (Fits c (suc n) j) n j r m h
       (λ z.
       let s = fits n (suc j) r m (omega arith) h (column-passed (transpose c) j r m z u) in
       let g : rank (take j c) ≤ rank (take (suc j) c) = rw (rank-take-suc j (omega arith)) (rank-grows (take j c) (at c j)) in
@@ -57,7 +57,7 @@ module _ (c : List ℕ) (six : length c ≡ 6) where
       (λ f a b nz.
       let y = u .each f a b in
       let nonzero : digit (y .symbol) j ≢ 0 = λ z. nz (sym (row-digit y j) ∙ z) in
-      let s = fits n (suc j) (suc r) (step r f j m) (omega arith) (omega arith) (row-chosen (transpose c) j r f m a b y nonzero u) in
+      let s = fits n (suc j) (suc r) (clear-step r f j m) (omega arith) (omega arith) (row-chosen (transpose c) j r f m a b y nonzero u) in
       let outside = separates c (transpose c) (transpose-is c six) (length-table 6 _) (y .symbol) (y .has .1) j (y .has .0) nonzero in
       let g = rank-take-suc j (omega arith) ∙ rank-outside (take j c) (at c j) outside in
       record {
@@ -86,21 +86,21 @@ module _ (c : List ℕ) (six : length c ≡ 6) where
       let y = u .each i (omega arith) l in
       span-digits ps (y .symbol) (at (transpose c) i) (sym (y .is) ∙ square-row c six i l) (y .has))
 
-  rank-within : rank c ≤ length (trace (square c))
-  unfolding trace trace-on
+  rank-within : rank c ≤ length (pivot-log (square c))
+  unfolding pivot-log pivot-log-on
   rank-within =
       let s = rows-spanned (transpose c) 6 0 0 (square c) refl (omega arith) rows in
       let t = transposed-spans c (transpose c) (transpose-is c six) (s .by) (spans-transpose (s .by) (s .spans)) in
       omega (arith, s .count, t .1, rank-least c (t .0) (t .2))
 
-  square-fits : Fits c 6 0 (trace (square c))
-  unfolding trace trace-on
+  square-fits : Fits c 6 0 (pivot-log (square c))
+  unfolding pivot-log pivot-log-on
   square-fits = fits 6 0 0 (square c) refl (omega arith) rows
 
   -- THE RANK is the number of chosen rows
-  pub chosen-rank : length (trace (square c)) ≡ rank c
+  pub chosen-rank : length (pivot-log (square c)) ≡ rank c
   chosen-rank = omega (arith, rank-within, square-fits .within)
 
   -- THE MASK has a bit where the rank gains
-  pub mask-gains : mask-of (trace (square c)) ≡ gains c 6 0
+  pub mask-gains : mask-of (pivot-log (square c)) ≡ gains c 6 0
   mask-gains = square-fits .exact (omega (arith, chosen-rank, rank-least [] [] tt))

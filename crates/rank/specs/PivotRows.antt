@@ -1,6 +1,6 @@
 -- What the elimination chooses, column by column: from place r on the rows are combinations of the rows at the start, zero in the columns
--- passed, and the rows chosen from there on span them. Assumes nothing.
--- Main: trace-step, column-passed, row-chosen, rows-spanned.
+-- passed, and the rows chosen from there on span them.
+-- Main: pivot-log-step, column-passed, row-chosen, rows-spanned.
 use mathlib.Core.Path.{_≡_, refl, sym, ap, _∙_}
 use mathlib.Core.Logic.{_≢_}
 use mathlib.Core.Bool.{Bool, true, false, cond}
@@ -14,7 +14,7 @@ use borrow.Author.Tests.{eqb-true, eqb-false, lt-ltb, le-ltb}
 use Rattle.algebra.specs.Digits.{digit}
 use Rattle.algebra.specs.Combinations.{Span, span-zero}
 use Rattle.rank.specs.Clearing.{ZeroBefore, zero-before-next, zero-before-all, zero-before-clear, span-clear}
-use Rattle.rank.specs.Elimination.{entry, pivot-from, pivot-row, step, Chosen, choice, trace-with, trace-from}
+use Rattle.rank.specs.Elimination.{entry, pivot-from, pivot-row, clear-step, Chosen, choice, pivot-log-with, pivot-log-from}
 use Rattle.rank.specs.Rows.{Row, RowsFrom, rows-step, rows-unstep}
 
 -- THE PIVOT, from row i on
@@ -34,14 +34,14 @@ found-from (suc n) i j m e = go (eqb (entry m i j) 0) refl (pivot-from n (suc i)
     go false t f g = found (omega arith) (omega arith) (eqb-false (entry m i j) 0 t)
 
 -- ONE COLUMN: what holds with and without a chosen row holds
-pub trace-step : (G : List Chosen → Type 0) (n j r : ℕ) (m : List (List ℕ)) → r ≤ 6
-    → (((k : ℕ) → r ≤ k → k < 6 → entry m k j ≡ 0) → G (trace-from n (suc j) r m))
-    → ((f : ℕ) → r ≤ f → f < 6 → entry m f j ≢ 0 → G (choice r f j m ∷ trace-from n (suc j) (suc r) (step r f j m)))
-    → G (trace-from (suc n) j r m)
-unfolding trace-from trace-with pivot-row
-trace-step G n j r m h without-row with-row = go (pivot-from (6 - r) r j m) (found-from (6 - r) r j m (omega arith))
+pub pivot-log-step : (G : List Chosen → Type 0) (n j r : ℕ) (m : List (List ℕ)) → r ≤ 6
+    → (((k : ℕ) → r ≤ k → k < 6 → entry m k j ≡ 0) → G (pivot-log-from n (suc j) r m))
+    → ((f : ℕ) → r ≤ f → f < 6 → entry m f j ≢ 0 → G (choice r f j m ∷ pivot-log-from n (suc j) (suc r) (clear-step r f j m)))
+    → G (pivot-log-from (suc n) j r m)
+unfolding pivot-log-from pivot-log-with pivot-row
+pivot-log-step G n j r m h without-row with-row = go (pivot-from (6 - r) r j m) (found-from (6 - r) r j m (omega arith))
   where
-    go : (f : ℕ) → Found j m r f → G (trace-with (ltb f 6) (λ s k. trace-from n (suc j) s k) r f j m)
+    go : (f : ℕ) → Found j m r f → G (pivot-log-with (ltb f 6) (λ s k. pivot-log-from n (suc j) s k) r f j m)
     go f (absent e z) = rw (le-ltb f 6 (omega arith)) (without-row z)
     go f (found a b z) = rw (lt-ltb f 6 b) (with-row f a b z)
 
@@ -63,7 +63,7 @@ column-passed d j r m z u = record { rows = u .rows; each = λ k a b. one (u .ea
 
 -- a row that is not is chosen
 pub row-chosen : (d : List ℕ) (j r f : ℕ) (m : List (List ℕ)) → r ≤ f → f < 6 → (y : Row (Remaining d j) (getD m f [])) → digit (y .symbol) j ≢ 0
-    → RowsFrom (Remaining d j) r m → RowsFrom (Remaining d (suc j)) (suc r) (step r f j m)
+    → RowsFrom (Remaining d j) r m → RowsFrom (Remaining d (suc j)) (suc r) (clear-step r f j m)
 row-chosen d j r f m a b y nz u =
     rows-step r f j m (u .rows) a b (y .symbol) (y .is) _ _
     (λ v h. (zero-before-clear j (y .symbol) v nz (y .has .0) (h .0), span-clear j (y .symbol) v (y .has .1) (h .1))) u
@@ -74,8 +74,8 @@ pub record Spanned (r : ℕ) (m : List (List ℕ)) (t : List Chosen) : Type 0 wh
   pub count : length by ≡ length t
   pub spans : RowsFrom (Span by) r m
 
-pub rows-spanned : (d : List ℕ) (n j r : ℕ) (m : List (List ℕ)) → j + n ≡ 6 → r ≤ 6 → RowsFrom (Remaining d j) r m → Spanned r m (trace-from n j r m)
-unfolding trace-from
+pub rows-spanned : (d : List ℕ) (n j r : ℕ) (m : List (List ℕ)) → j + n ≡ 6 → r ≤ 6 → RowsFrom (Remaining d j) r m → Spanned r m (pivot-log-from n j r m)
+unfolding pivot-log-from
 rows-spanned d zero j r m e h u = record {
   by = [];
   count = refl;
@@ -87,12 +87,12 @@ rows-spanned d zero j r m e h u = record {
   };
 }
 rows-spanned d (suc n) j r m e h u =
-    trace-step (Spanned r m) n j r m h
+    pivot-log-step (Spanned r m) n j r m h
     (λ z. rows-spanned d n (suc j) r m (omega arith) h (column-passed d j r m z u))
     (λ f a b nz.
     let y = u .each f a b in
     let after = row-chosen d j r f m a b y (λ z. nz (sym (row-digit y j) ∙ z)) u in
-    let s = rows-spanned d n (suc j) (suc r) (step r f j m) (omega arith) (omega arith) after in
+    let s = rows-spanned d n (suc j) (suc r) (clear-step r f j m) (omega arith) (omega arith) after in
     record {
       by = y .symbol ∷ s .by;
       count = ap suc (s .count);

@@ -1,5 +1,5 @@
 -- One step of the elimination, row by row. A row is the digits of a symbol, and the rows below place r are those that were from there on, but
--- for the chosen one, each cleared by it. Assumes nothing.
+-- for the chosen one, each cleared by it.
 -- Main: Row, RowsFrom, rows-step, rows-unstep.
 use mathlib.Core.Path.{_≡_, refl, sym, ap, ap₂, _∙_}
 use mathlib.Core.Logic.{_≢_}
@@ -16,7 +16,7 @@ use Rattle.algebra.specs.Mod3.{times-≈}
 use Rattle.algebra.specs.Digits.{digit, digit-rest, by-digits, scale-same}
 use Rattle.algebra.specs.Combinations.{Span, span-like, span-head}
 use Rattle.rank.specs.Clearing.{clear, subtract-digits, span-unclear}
-use Rattle.rank.specs.Elimination.{zeros, swap-rows, clear-row, clear-from, clear-on, step}
+use Rattle.rank.specs.Elimination.{zeros, swap-rows, clear-row, clear-from, clear-on, clear-step}
 
 -- A ROW as a symbol with a property
 pub record Row (P : ℕ → Type 0) (x : List ℕ) : Type 0 where
@@ -84,18 +84,18 @@ module _ (j : ℕ) (p : List ℕ) where
 
 -- ONE STEP, chosen row f, which is the symbol p
 module _ (r f j : ℕ) (m : List (List ℕ)) (six : length m ≡ 6) (a : r ≤ f) (b : f < 6) (p : ℕ) (chosen : getD m f [] ≡ digits p) where
-  step-six : length (step r f j m) ≡ 6
-  unfolding step clear-on
+  step-six : length (clear-step r f j m) ≡ 6
+  unfolding clear-step clear-on
   step-six = clear-six j (getD m f []) (6 - suc r) (suc r) (swap-rows r f m) ∙ swap-six r f m six b
 
-  step-at : (k v : ℕ) → r < k → k < 6 → getD (swap-rows r f m) k [] ≡ digits v → getD (step r f j m) k [] ≡ digits (clear j p v)
-  unfolding step clear-on
+  step-at : (k v : ℕ) → r < k → k < 6 → getD (swap-rows r f m) k [] ≡ digits v → getD (clear-step r f j m) k [] ≡ digits (clear j p v)
+  unfolding clear-step clear-on
   step-at k v h l e =
       clear-after j (getD m f []) (6 - suc r) (suc r) (swap-rows r f m) (omega arith) (swap-six r f m six b) k h l
       ∙ ap₂ (clear-row j) chosen e ∙ clear-digits j p v
 
   -- forth: what clearing makes of a property holds after the step
-  pub rows-step : (P Q : ℕ → Type 0) → ((v : ℕ) → P v → Q (clear j p v)) → RowsFrom P r m → RowsFrom Q (suc r) (step r f j m)
+  pub rows-step : (P Q : ℕ → Type 0) → ((v : ℕ) → P v → Q (clear j p v)) → RowsFrom P r m → RowsFrom Q (suc r) (clear-step r f j m)
   rows-step P Q g u = record { rows = step-six; each = λ k h l. after k h l (was k h l) }
     where
       was : (k : ℕ) → suc r ≤ k → k < 6 → Row P (getD (swap-rows r f m) k [])
@@ -104,11 +104,11 @@ module _ (r f j : ℕ) (m : List (List ℕ)) (six : length m ≡ 6) (a : r ≤ f
         | no n ↦ rw (swap-other r f m six b k (λ e. omega arith) n) (u .each k (omega arith) l)
       ]
 
-      after : (k : ℕ) → suc r ≤ k → k < 6 → Row P (getD (swap-rows r f m) k []) → Row Q (getD (step r f j m) k [])
+      after : (k : ℕ) → suc r ≤ k → k < 6 → Row P (getD (swap-rows r f m) k []) → Row Q (getD (clear-step r f j m) k [])
       after k h l x = record { symbol = clear j p (x .symbol); is = step-at k (x .symbol) h l (x .is); has = g (x .symbol) (x .has) }
 
   -- back: what spans the rows after the step spans, with the chosen one, the rows before it
-  pub rows-unstep : (P : ℕ → Type 0) (ps : List ℕ) → RowsFrom P r m → RowsFrom (Span ps) (suc r) (step r f j m) → RowsFrom (Span (p ∷ ps)) r m
+  pub rows-unstep : (P : ℕ → Type 0) (ps : List ℕ) → RowsFrom P r m → RowsFrom (Span ps) (suc r) (clear-step r f j m) → RowsFrom (Span (p ∷ ps)) r m
   rows-unstep P ps u v = record { rows = u .rows; each = λ k h l. before k h l (u .each k h l) }
     where
       -- the row k of before stands in place i now

@@ -1,5 +1,5 @@
 -- A combination of the symbols of a card's transpose tells that a symbol of the card lies outside the span of those before it: it is a linear
--- function of the card's symbols that is 0 for them, and not for it. Assumes nothing.
+-- function of the card's symbols that is 0 for them, and not for it.
 -- Main: digit-linear, separates.
 use mathlib.Core.Path.{_≡_, refl, sym, ap, _∙_}
 use mathlib.Core.Logic.{_≢_}

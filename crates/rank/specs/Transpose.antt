@@ -1,5 +1,5 @@
 -- The transpose of a card has the card's rank: what spans the symbols of the one gives as many symbols that span the other.
--- Assumes nothing.
+--
 -- Main: transpose-is, transposed-spans, transposed-rank, transpose-card, transpose-twice, rank-transpose.
 use mathlib.Core.Path.{_≡_, refl, sym, ap, ap₂, _∙_}
 use mathlib.Core.Bool.{true}

@@ -1,13 +1,13 @@
-// Row elimination on a square of digits, by value, step by step as specs/Elimination.antt defines it. Assumes nothing.
+// Row elimination on a square of digits, by value, step by step as specs/Elimination.antt defines it.
 use crate::row::multiple;
 use crate::row::row_less;
 ghost use mathlib.Core.Path.{_≡_};
 ghost use lib.ListN.{length};
-ghost use Rattle.rank.specs.Elimination.{first, DigitRows, trace};
+ghost use Rattle.rank.specs.Elimination.{first-nonzero, DigitRows, pivot-log};
 
 // The first place where a column is not 0; if there is none, the place after the last.
 fn pivot_place(column: [u16; 6]) -> usize
-    ensures { λ f. ⌜ f ≡ first 0 column ⌝ }
+    ensures { λ f. ⌜ f ≡ first-nonzero 0 column ⌝ }
 {
     let mut i = 0;
     while i < 6 {
@@ -23,7 +23,7 @@ fn pivot_place(column: [u16; 6]) -> usize
 // that a function returned would be copied for each column.
 pub(crate) fn pivots(m: [[u16; 6]; 6]) -> u8
     requires { ⌜ DigitRows m ⌝ }
-    ensures { λ r. ⌜ r ≡ length (trace m) ⌝ }
+    ensures { λ r. ⌜ r ≡ length (pivot-log m) ⌝ }
 {
     let mut n = m;
     let mut r = 0;

@@ -1,4 +1,4 @@
-// Digits modulo 3, and rows of six of them, in 16 bits: the vector unit multiplies numbers of that width. Assumes nothing.
+// Digits modulo 3, and rows of six of them, in 16 bits: the vector unit multiplies numbers of that width.
 ghost use mathlib.Core.Path.{_≡_};
 ghost use Prim.Native.Nat.{_+_, _*_, _%_, _<_, _≤_};
 ghost use Rattle.rank.specs.Definitions.{subtract};

@@ -1,4 +1,4 @@
-// The square of digits of a card (document 01: Code), by value: an array of six rows. Assumes nothing.
+// The square of digits of a card (SPECIFICATION 3.1), by value: an array of six rows.
 ghost use mathlib.Core.Path.{_≡_};
 ghost use Rattle.rank.specs.Elimination.{low-digits, other-digits, square};
 

@@ -1,2 +1,2 @@
 -- The numbers of the refusals, and what an answer says in numbers.
-pub mod Answers
+pub mod Replies

@@ -1,11 +1,11 @@
-// Why an operation refuses, one variant for each refusal of document 01 with its number, and the answers that may be refusals. Assumes nothing.
+// Why an operation refuses, one variant for each refusal with its number, and the answers that may be refusals.
 ghost use mathlib.Core.Path.{_≡_};
-ghost use Rattle.refusal.specs.Answers.{number, outcome, told};
+ghost use Rattle.refusal.specs.Replies.{number, outcome};
 
 pub enum Refusal {
     // 1: k is not 1 to 5.
     Dimension,
-    // 2: a list has not the length that is asked for.
+    // 2: a list has the wrong length.
     Length,
     // 3: a symbol above 728, or a value above 26.
     Range,
@@ -35,7 +35,7 @@ pub enum Answer {
     Refused(Refusal),
 }
 
-// The number by which document 01 names a refusal.
+// The number of a refusal.
 pub fn number(r: Refusal) -> u32
     ensures { λ n. ⌜ n ≡ number r ⌝ }
 {
@@ -59,25 +59,5 @@ pub fn outcome_number(o: Outcome) -> u32
     match o {
         Outcome::Done => 0,
         Outcome::Refused(r) => number(r),
-    }
-}
-
-// An answer's refusal as a number, 0 if there is none.
-pub fn answer_number(a: Answer) -> u32
-    ensures { λ n. ⌜ n ≡ told a .refusal ⌝ }
-{
-    match a {
-        Answer::Value(_) => 0,
-        Answer::Refused(r) => number(r),
-    }
-}
-
-// An answer's value, 0 where it was refused.
-pub fn answer_value(a: Answer) -> u32
-    ensures { λ n. ⌜ n ≡ told a .value ⌝ }
-{
-    match a {
-        Answer::Value(v) => v,
-        Answer::Refused(_) => 0,
     }
 }

@@ -1,4 +1,4 @@
--- What is known of an input that was read: its bytes lie within the buffer. Assumes nothing.
+-- What is known of an input that was read: its bytes lie within the buffer.
 -- Main: Within, Reaches, bytes-within, bytes-reach.
 use mathlib.Core.Path.{_≡_}
 use mathlib.Core.List.{List}

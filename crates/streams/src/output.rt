@@ -4,7 +4,7 @@ ghost use Prim.Native.Nat.{_+_, _≤_};
 ghost use lib.ListN.{length, drop};
 
 // What is left of a text from a place on.
-fn rest(text: &[u8], at: usize) -> &[u8]
+fn remaining(text: &[u8], at: usize) -> &[u8]
     requires { ⌜ at ≤ length (now text) ⌝ }
     ensures { λ r. ⌜ now r ≡ drop at (now (text .entry)) ⌝ }
 {
@@ -16,7 +16,7 @@ fn write_some(text: &[u8], at: usize) -> usize
     requires { ⌜ at ≤ length (now text) ⌝ }
     ensures { λ r. ⌜ at + r ≤ length (now (text .entry)) ⌝ }
 {
-    let left = rest(text, at);
+    let left = remaining(text, at);
     io::count(libc::write(libc::STDOUT_FILENO, left), left)
 }
 

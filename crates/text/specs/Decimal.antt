@@ -1,4 +1,4 @@
--- Decimal numbers: their digits one by one, and how many there are; so how long a line is. Assumes nothing.
+-- Decimal numbers: their digits one by one, and how many there are; so how long a line is.
 -- Main: decimal-one, decimal-more, one-length, more-length; one-digit to seven-digits, spaced-length, word-line-length, book-refused-length;
 -- decimal-value, decimal-leads.
 use mathlib.Core.Path.{_≡_, refl, sym, _∙_, ap}

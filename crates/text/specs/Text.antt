@@ -1,5 +1,4 @@
 -- Texts that programs print, as lists of bytes in ASCII: words, decimal numbers and lines; and a text in a list that was lent for it.
--- Assumes nothing: these are definitions.
 -- Main: ascii, line-end, decimal, spaced, word-line, book-refused; written, room-refusal.
 use mathlib.Core.Bool.{cond}
 use mathlib.Core.List.{List, [], _∷_, _++_}
@@ -8,7 +7,7 @@ use Prim.Native.Nat.{ℕ, zero, suc, _+_, _/_, _%_}
 use Prim.Native.String.{String, [] as []ˢ, _∷_ as _∷ˢ_}
 use lib.Dec.{ltb}
 use lib.ListN.{length, take, drop}
-use Rattle.refusal.specs.Answers.{number}
+use Rattle.refusal.specs.Replies.{number}
 use Rattle.refusal.specs.declared.Refusal.the-variants.{Length}
 
 -- WORDS: each character by its number in ASCII

@@ -1,4 +1,4 @@
--- Bytes stored in a list that was lent, from a place on. What is written after what was written is one text. Assumes nothing.
+-- Bytes stored in a list that was lent, from a place on. What is written after what was written is one text.
 -- Main: written-front; Wrote, wrote-none, wrote-byte, wrote-then, wrote-length; copying-start, copying-next, copying-end; room-then, pieces-room;
 -- room-short, room-enough.
 use mathlib.Core.Path.{_≡_, sym, _∙_, ap}
@@ -10,7 +10,7 @@ use native.Mathlib.Omega.{arith}
 use lib.ListN.{length, take, drop, getD, set, length-append}
 use lib.Seq.{take-all, take-append-seam, take-suc, sets, length-sets, sets-eq}
 use borrow.Author.Tests.{lt-ltb, le-ltb}
-use Rattle.refusal.specs.Answers.{number}
+use Rattle.refusal.specs.Replies.{number}
 use Rattle.refusal.specs.declared.Refusal.the-variants.{Length}
 use Rattle.text.specs.Text.{written, room-refusal}
 

@@ -1,5 +1,4 @@
 // Texts that programs print, written into a list that the caller lends: words, decimal numbers, and the line of a refused book.
-// Assumes nothing.
 mod writing;
 
 pub use writing::write_book_refused;

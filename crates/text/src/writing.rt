@@ -1,5 +1,4 @@
 // Bytes, words and numbers written into a lent list from a place on. Each function answers the next place.
-// Assumes nothing: each asks that there is room.
 ghost use Prim.Native.Nat.{_+_, _≤_};
 ghost use mathlib.Core.List.{[], _∷_};
 ghost use lib.ListN.{length};

@@ -1,4 +1,4 @@
--- `capi::lucetcoral_damaged_card` meets its contract: each case of the answer in numbers. Assumes nothing.
+-- `capi::lucetcoral_damaged_card` meets its contract: each case of the answer in numbers.
 use borrow.Author.Needs.{needs}
 use denote.Ref.{now}
 use Rattle.capi.specs.Given.{names-card, names-none, names-refused}
@@ -25,11 +25,11 @@ pub lucetcoral-damaged-card-spec : {M : Type 1} → statement M
 lucetcoral-damaged-card-spec =
     tie.close
     (tie.spec
-    (λ c κs. search needs)
-    (λ c. search needs)
-    (λ c. search needs)
-    (λ c. search needs)
-    (λ c κs. search needs)
+    (search needs)
+    (search needs)
+    (search needs)
+    (search needs)
+    (search needs)
     returns
     returns-2
     returns-3)

@@ -1,4 +1,4 @@
--- `demands::damaged_card` meets its contract, by that of `book::damaged_card`. Assumes nothing.
+-- `demands::damaged_card` meets its contract, by that of `book::damaged_card`.
 use borrow.Author.Needs.{needs}
 use Rattle.demands.specs.BookDemands.{worn-says}
 use Rattle.demands.proofs.damaged_card.Statement.{statement}

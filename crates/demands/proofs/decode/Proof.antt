@@ -1,4 +1,4 @@
--- `demands::decode` meets its contract, by that of `decoder::decode`. Assumes nothing.
+-- `demands::decode` meets its contract, by that of `decoder::decode`.
 use borrow.Author.Needs.{needs}
 use Rattle.demands.specs.CardDemands.{mend-says}
 use Rattle.demands.proofs.decode.Statement.{statement}

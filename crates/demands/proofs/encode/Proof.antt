@@ -1,4 +1,4 @@
--- `demands::encode` meets its contract, by that of `codec::encode`. Assumes nothing.
+-- `demands::encode` meets its contract, by that of `codec::encode`.
 use borrow.Author.Needs.{needs}
 use Rattle.demands.specs.CardDemands.{press-says}
 use Rattle.demands.proofs.encode.Statement.{statement}

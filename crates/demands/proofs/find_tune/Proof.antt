@@ -1,4 +1,4 @@
--- `demands::find_tune` meets its contract, by that of `book::find_tune`. Assumes nothing.
+-- `demands::find_tune` meets its contract, by that of `book::find_tune`.
 use borrow.Author.Needs.{needs}
 use Rattle.demands.specs.BookDemands.{find-says}
 use Rattle.demands.proofs.find_tune.Statement.{statement}

@@ -1,4 +1,4 @@
--- `demands::open` meets its contract, by that of `book::open`. Assumes nothing.
+-- `demands::open` meets its contract, by that of `book::open`.
 use borrow.Author.Needs.{needs}
 use Rattle.demands.specs.BookDemands.{open-says}
 use Rattle.demands.proofs.open.Statement.{statement}

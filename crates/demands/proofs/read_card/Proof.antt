@@ -1,4 +1,4 @@
--- `demands::read_card` meets its contract, by that of `book::read_card`. Assumes nothing.
+-- `demands::read_card` meets its contract, by that of `book::read_card`.
 use borrow.Author.Needs.{needs}
 use Rattle.demands.specs.BookDemands.{read-says}
 use Rattle.demands.proofs.read_card.Statement.{statement}

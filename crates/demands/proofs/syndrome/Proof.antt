@@ -1,4 +1,4 @@
--- `demands::syndrome` meets its contract, by that of `codec::syndrome`. Assumes nothing.
+-- `demands::syndrome` meets its contract, by that of `codec::syndrome`.
 use borrow.Author.Needs.{needs}
 use Rattle.demands.specs.CardDemands.{test-says}
 use Rattle.demands.proofs.syndrome.Statement.{statement}

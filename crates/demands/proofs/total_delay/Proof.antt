@@ -1,4 +1,4 @@
--- `demands::total_delay` meets its contract, by that of `book::total_delay`. Assumes nothing.
+-- `demands::total_delay` meets its contract, by that of `book::total_delay`.
 use borrow.Author.Needs.{needs}
 use Rattle.demands.specs.BookDemands.{length-says}
 use Rattle.demands.proofs.total_delay.Statement.{statement}

@@ -1,4 +1,4 @@
--- `demands::tune_body` meets its contract, by that of `book::tune_body`. Assumes nothing.
+-- `demands::tune_body` meets its contract, by that of `book::tune_body`.
 use borrow.Author.Needs.{needs}
 use Rattle.demands.specs.BookDemands.{body-says}
 use Rattle.demands.proofs.tune_body.Statement.{statement}

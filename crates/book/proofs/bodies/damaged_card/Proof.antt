@@ -1,13 +1,13 @@
--- `book::bodies::damaged_card` meets its contract: the test, then the search. Assumes nothing.
+-- `book::bodies::damaged_card` meets its contract: the test, then the search.
 use mathlib.Core.Path.{sym, _∙_}
 use borrow.Author.Needs.{needs}
 use borrow.Author.Tests.{not-true, not-false}
-use Rattle.book.specs.CardLoops.{shows-bad}
+use Rattle.book.specs.CardLoops.{worn-is-bad}
 use Rattle.book.proofs.bodies.damaged_card.Statement.{statement}
 use Rattle.book.proofs.bodies.damaged_card.Tie as tie
 
 returns : tie.Need-returns
-returns c = shows-bad _ (sym (c .before .body-good .ensures) ∙ not-true _ (c .if1 .taken))
+returns c = worn-is-bad _ (sym (c .before .body-good .ensures) ∙ not-true _ (c .if1 .taken))
 
 find-damaged-requires : tie.Need-find-damaged-requires
 find-damaged-requires c κs = sym (c .before .body-good .ensures) ∙ not-false _ (c .if1 .left)

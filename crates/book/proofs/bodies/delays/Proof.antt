@@ -1,11 +1,11 @@
--- `book::bodies::delays` meets its contract: what was added and the delays from here on are the whole sum, which does not wrap. Assumes
--- nothing.
+-- `book::bodies::delays` meets its contract: what was added and the delays from here on are the whole sum, which does not wrap.
 use mathlib.Core.Path.{_≡_, _∙_, ap}
 use Prim.Native.Nat.{_+_, _-_, _≤_, _*_}
 use native.Mathlib.Omega.{arith}
 use denote.Ref.{now}
 use borrow.Author.Needs.{needs}
-use Rattle.book.specs.Reading.{Spoken, cards-in, reading}
+use Rattle.refusal.specs.Replies.{Reply}
+use Rattle.book.specs.Reading.{Card-value, cards-in, reading}
 use Rattle.book.specs.CardLoops.{good-length, Adding, adding-start, adding-next, adding-fits, adding-end}
 use Rattle.book.proofs.bodies.delays.Statement.{statement}
 use Rattle.book.proofs.bodies.delays.Tie as tie
@@ -21,8 +21,8 @@ cast-count c = omega (arith, good-length _ (c .before .pre))
 
 -- what is added is the card's delay
 added : (c : tie.After-delay Inv-loop μ-loop) → let l = c .before .before .before in
-    c .delay .result ≡ reading (now (l .before .before .args .body)) (l .loop .n) .delay
-added c = c .delay .ensures ∙ ap (λ (s : Spoken). s .delay) (c .before .read-card .ensures)
+    c .delay .result ≡ reading (now (l .before .before .args .body)) (l .loop .n) .value .strike .delay
+added c = c .delay .ensures ∙ ap (λ (r : Reply Card-value). r .value .strike .delay) (c .before .read-card .ensures)
 
 fits : (c : tie.After-delay Inv-loop μ-loop) → let l = c .before .before .before in
     (l .loop .n ≤ 5461) × (l .loop .total + c .delay .result ≤ 5462 * 728)
@@ -39,10 +39,10 @@ delays-spec =
     μ-loop
     cast-count
     (λ c. adding-start _)
-    (λ c κs. search needs)
-    (λ c κs. search needs)
+    (search needs)
+    (search needs)
     (λ c. omega (arith, fits c .1))
     (λ c. omega (arith, fits c .0))
-    (λ c. search needs)
+    (search needs)
     loop-again
     (λ c. adding-end _ _ _ (c .before .loop .inv) (omega arith)))

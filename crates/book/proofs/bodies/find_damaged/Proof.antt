@@ -1,11 +1,11 @@
--- `book::bodies::find_damaged` meets its contract: no card before this one is damaged. Assumes nothing.
+-- `book::bodies::find_damaged` meets its contract: no card before this one is damaged.
 use mathlib.Core.Path.{_≡_, sym, _∙_, ap}
 use Prim.Native.Nat.{_+_, _-_, _≤_}
 use native.Mathlib.Omega.{arith}
 use denote.Ref.{now}
 use borrow.Author.Needs.{needs}
 use Rattle.book.specs.Bodies.{flawed, is-damaged}
-use Rattle.book.specs.CardLoops.{good-length, Clean-below, clean-next, shows-card, shows-none}
+use Rattle.book.specs.CardLoops.{good-length, Clean-below, clean-next, worn-is-card, worn-is-none}
 use Rattle.book.proofs.bodies.find_damaged.Statement.{statement}
 use Rattle.book.proofs.bodies.find_damaged.Tie as tie
 
@@ -38,13 +38,13 @@ loop-again c =
 returns : tie.Need-returns Inv-loop μ-loop
 returns c =
     let l = c .before in
-    shows-none (now (l .before .before .args .body)) (l .loop .n) (l .before .before .pre) (l .loop .inv .2) (omega arith)
+    worn-is-none (now (l .before .before .args .body)) (l .loop .n) (l .before .before .pre) (l .loop .inv .2) (omega arith)
 
 returns-2 : tie.Need-returns-2 Inv-loop μ-loop
 returns-2 c =
     let l = c .before .before .before .before in
     let s = l .before .before in
-    shows-card (now (s .args .body)) (l .loop .n) (s .pre) (omega arith) (omega arith) (sym (tested (c .before)) ∙ c .if2 .taken)
+    worn-is-card (now (s .args .body)) (l .loop .n) (s .pre) (omega arith) (omega arith) (sym (tested (c .before)) ∙ c .if2 .taken)
 
 pub find-damaged-spec : {M : Type 1} → statement M
 find-damaged-spec =
@@ -54,10 +54,10 @@ find-damaged-spec =
     μ-loop
     cast-count
     loop-holds
-    (λ c κs. search needs)
-    (λ c κs. search needs)
+    (search needs)
+    (search needs)
     add-n
-    (λ c. search needs)
+    (search needs)
     loop-again
     returns
     returns-2)

@@ -1,17 +1,17 @@
--- `book::bodies::total_delay` meets its contract: the test, then the sum. Assumes nothing.
+-- `book::bodies::total_delay` meets its contract: the test, then the sum.
 use mathlib.Core.Path.{_≡_, sym, _∙_}
 use mathlib.Core.Bool.{true}
 use denote.Ref.{now}
 use borrow.Author.Needs.{needs}
 use borrow.Author.Tests.{not-true, not-false}
-use Rattle.refusal.specs.Answers.{answer}
+use Rattle.refusal.specs.Replies.{reply-with}
 use Rattle.book.specs.Layout.{body-good}
 use Rattle.book.specs.Bodies.{body-refusal}
 use Rattle.book.proofs.bodies.total_delay.Statement.{statement}
 use Rattle.book.proofs.bodies.total_delay.Tie as tie
 
 returns : tie.Need-returns
-unfolding answer body-refusal
+unfolding reply-with body-refusal
 returns c = rw (sym (c .before .body-good .ensures) ∙ not-true _ (c .if1 .taken))
 
 good : (c : tie.Else1) → body-good (now (c .before .before .before .args .body)) ≡ true
@@ -21,7 +21,7 @@ delays-requires : tie.Need-delays-requires
 delays-requires c κs = good c
 
 returns-2 : tie.Need-returns-2
-unfolding answer body-refusal
+unfolding reply-with body-refusal
 returns-2 c = rw (good (c .before), c .delays .ensures)
 
 pub total-delay-spec : {M : Type 1} → statement M

@@ -1,5 +1,5 @@
 -- `book::contents::bodies_bad` meets its contract: the test from here on is the whole test. A body has at most 65,535 cards, 786,420 bytes,
--- so the end that is counted does not wrap. Assumes nothing.
+-- so the end that is counted does not wrap.
 use mathlib.Core.Path.{_≡_, _∙_}
 use mathlib.Core.Bool.{not}
 use Prim.Native.Nat.{_+_, _*_, _-_, _≤_}
@@ -9,7 +9,7 @@ use borrow.Author.Needs.{needs}
 use borrow.Author.Tests.{le-leb, lt-leb, eq-eqb, ne-eqb}
 use Rattle.book.specs.Layout.{cards, offset}
 use Rattle.book.specs.Open.{bodies-bad}
-use Rattle.book.specs.Loops.{bodies-on, bodies-start, bodies-next, bodies-end}
+use Rattle.book.specs.ContentsLoops.{bodies-on, bodies-start, bodies-next, bodies-end}
 use Rattle.book.proofs.contents.bodies_bad.Statement.{statement}
 use Rattle.book.proofs.contents.bodies_bad.Tie as tie
 
@@ -66,18 +66,18 @@ bodies-bad-spec =
     (tie.spec
     Inv-loop
     μ-loop
-    (λ c. search needs)
-    (λ c. search needs)
+    (search needs)
+    (search needs)
     loop-holds
     cards-of-requires
-    (λ c. search needs)
+    (search needs)
     returns
     offset-of-requires
-    (λ c. search needs)
+    (search needs)
     returns-2
-    (λ c. search needs)
-    (λ c. search needs)
-    (λ c. search needs)
-    (λ c. search needs)
+    (search needs)
+    (search needs)
+    (search needs)
+    (search needs)
     loop-again
     returns-3)

@@ -1,4 +1,4 @@
--- `book::contents::numbers_bad` meets its contract: the test from here on is the whole test. Assumes nothing.
+-- `book::contents::numbers_bad` meets its contract: the test from here on is the whole test.
 use mathlib.Core.Path.{_≡_}
 use mathlib.Core.Bool.{not}
 use Prim.Native.Nat.{_-_, _≤_}
@@ -8,7 +8,7 @@ use borrow.Author.Needs.{needs}
 use borrow.Author.Tests.{le-leb, lt-leb}
 use Rattle.book.specs.Layout.{tune-number}
 use Rattle.book.specs.Open.{numbers-bad}
-use Rattle.book.specs.Loops.{numbers-on, numbers-start, numbers-next, numbers-end}
+use Rattle.book.specs.ContentsLoops.{numbers-on, numbers-start, numbers-next, numbers-end}
 use Rattle.book.proofs.contents.numbers_bad.Statement.{statement}
 use Rattle.book.proofs.contents.numbers_bad.Tie as tie
 
@@ -67,8 +67,8 @@ numbers-bad-spec =
     number-of-requires
     returns
     returns-2
-    (λ c. search needs)
-    (λ c. search needs)
-    (λ c. search needs)
+    (search needs)
+    (search needs)
+    (search needs)
     loop-again
     returns-3)

@@ -1,16 +1,16 @@
--- `book::contents::open` meets its contract: each answer is that of the tests on its way. Assumes nothing.
+-- `book::contents::open` meets its contract: each answer is that of the tests on its way.
 use mathlib.Core.Path.{_≡_}
 use mathlib.Core.Bool.{true, false}
 use denote.Ref.{now}
 use borrow.Author.Needs.{needs}
-use Rattle.refusal.specs.Answers.{answer}
+use Rattle.refusal.specs.Replies.{reply-with}
 use Rattle.book.specs.Open.{size-bad, numbers-bad, bodies-bad, open-refusal}
 use Rattle.book.specs.Accepted.{size-within}
 use Rattle.book.proofs.contents.open.Statement.{statement}
 use Rattle.book.proofs.contents.open.Tie as tie
 
 returns : tie.Need-returns
-unfolding answer open-refusal
+unfolding reply-with open-refusal
 returns c =
     let p : size-bad (now (c .before .before .before .args .book)) ≡ true = cc in
     rw p
@@ -34,7 +34,7 @@ bodies-bad-requires c κs =
     (c .before .before .tune-count .ensures, size-within bs p .2)
 
 returns-2 : tie.Need-returns-2
-unfolding answer open-refusal
+unfolding reply-with open-refusal
 returns-2 c =
     let bs = now (c .before .before .before .before .before .before .args .book) in
     let p : size-bad bs ≡ false = cc in
@@ -42,7 +42,7 @@ returns-2 c =
     rw (p, q)
 
 returns-3 : tie.Need-returns-3
-unfolding answer open-refusal
+unfolding reply-with open-refusal
 returns-3 c =
     let bs = now (c .before .before .before .before .before .before .before .before .args .book) in
     let p : size-bad bs ≡ false = cc in
@@ -51,7 +51,7 @@ returns-3 c =
     rw (p, q, r)
 
 returns-4 : tie.Need-returns-4
-unfolding answer open-refusal
+unfolding reply-with open-refusal
 returns-4 c =
     let t = c .before .before .before .before in
     let bs = now (t .before .before .before .before .args .book) in
@@ -64,12 +64,12 @@ pub open-spec : {M : Type 1} → statement M
 open-spec =
     tie.close
     (tie.spec
-    (λ c κs. search needs)
+    (search needs)
     returns
     tune-count-requires
     numbers-bad-requires
     returns-2
     bodies-bad-requires
     returns-3
-    (λ c. search needs)
+    (search needs)
     returns-4)

@@ -1,4 +1,4 @@
--- `book::contents::size_bad` meets its contract: each answer is that of the tests on its way. Assumes nothing.
+-- `book::contents::size_bad` meets its contract: each answer is that of the tests on its way.
 use native.Mathlib.Omega.{arith}
 use denote.Ref.{now}
 use lib.ListN.{length}
@@ -32,8 +32,8 @@ size-bad-spec =
     (tie.spec
     returns
     returns-2
-    (λ c κs. search needs)
-    (λ c. search needs)
-    (λ c. search needs)
-    (λ c. search needs)
+    (search needs)
+    (search needs)
+    (search needs)
+    (search needs)
     returns-3)

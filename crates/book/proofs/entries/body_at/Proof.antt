@@ -1,4 +1,4 @@
--- `book::entries::body_at` meets its contract: the part of an entry of an accepted book lies within it. Assumes nothing.
+-- `book::entries::body_at` meets its contract: the part of an entry of an accepted book lies within it.
 use native.Mathlib.Nat.{add-sub-cancel-left}
 use native.Mathlib.Omega.{arith}
 use borrow.Author.Needs.{needs}
@@ -25,12 +25,12 @@ body-at-spec =
     tie.close
     (tie.spec
     offset-of-requires
-    (λ c. search needs)
+    (search needs)
     cards-of-requires
-    (λ c. search needs)
-    (λ c. search needs)
-    (λ c. search needs)
-    (λ c. search needs)
-    (λ c. search needs)
+    (search needs)
+    (search needs)
+    (search needs)
+    (search needs)
+    (search needs)
     part-result-end
     returns)

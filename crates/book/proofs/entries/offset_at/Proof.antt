@@ -1,4 +1,4 @@
--- `book::entries::offset_at` meets its contract: the bytes of an entry of an accepted book are there. Assumes nothing.
+-- `book::entries::offset_at` meets its contract: the bytes of an entry of an accepted book are there.
 use borrow.Author.Needs.{needs}
 use Rattle.book.specs.Accepted.{entries-within}
 use Rattle.book.proofs.entries.offset_at.Statement.{statement}

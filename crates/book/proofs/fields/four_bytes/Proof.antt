@@ -1,4 +1,4 @@
--- `book::fields::four_bytes` meets its contract: `big-four` is made of the two halves that `two_bytes` gives. Assumes nothing.
+-- `book::fields::four_bytes` meets its contract: `big-four` is made of the two halves that `two_bytes` gives.
 use borrow.Author.Needs.{needs}
 use Rattle.book.specs.Layout.{big-four}
 use Rattle.book.proofs.fields.four_bytes.Statement.{statement}
@@ -12,11 +12,11 @@ pub four-bytes-spec : {M : Type 1} → statement M
 four-bytes-spec =
     tie.close
     (tie.spec
-    (λ c κs. search needs)
-    (λ c. search needs)
-    (λ c. search needs)
-    (λ c κs. search needs)
-    (λ c. search needs)
-    (λ c. search needs)
-    (λ c. search needs)
+    (search needs)
+    (search needs)
+    (search needs)
+    (search needs)
+    (search needs)
+    (search needs)
+    (search needs)
     returns)

@@ -1,4 +1,4 @@
--- `book::fields::two_bytes` meets its contract: bytes are below 256, so nothing wraps, and the sum is `big`. Assumes nothing.
+-- `book::fields::two_bytes` meets its contract: bytes are below 256, so nothing wraps, and the sum is `big`.
 use Prim.Native.Nat.{_+_}
 use native.Mathlib.Numerals.{add-one}
 use native.Mathlib.Omega.{arith}
@@ -31,10 +31,10 @@ pub two-bytes-spec : {M : Type 1} → statement M
 two-bytes-spec =
     tie.close
     (tie.spec
-    (λ c. search needs)
+    (search needs)
     cast-high
-    (λ c. search needs)
-    (λ c. search needs)
+    (search needs)
+    (search needs)
     cast-low
     mul-result
     add-result

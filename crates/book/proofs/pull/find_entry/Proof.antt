@@ -1,4 +1,4 @@
--- `book::pull::find_entry` meets its contract: the search from here on is the whole search. Assumes nothing.
+-- `book::pull::find_entry` meets its contract: the search from here on is the whole search.
 use mathlib.Core.Path.{_≡_, _∙_}
 use Prim.Native.Nat.{_-_, _≤_}
 use native.Mathlib.Omega.{arith}
@@ -7,7 +7,7 @@ use borrow.Author.Needs.{needs}
 use borrow.Author.Tests.{eq-eqb, ne-eqb}
 use Rattle.book.specs.Layout.{tune-number}
 use Rattle.book.specs.Pull.{entry-of}
-use Rattle.book.specs.Loops.{entry-on, entry-start, entry-next, entry-end}
+use Rattle.book.specs.ContentsLoops.{entry-on, entry-start, entry-next, entry-end}
 use Rattle.book.proofs.pull.find_entry.Statement.{statement}
 use Rattle.book.proofs.pull.find_entry.Tie as tie
 
@@ -51,9 +51,9 @@ find-entry-spec =
     μ-loop
     (λ c. (search needs, entry-start _ _))
     number-of-requires
-    (λ c. search needs)
-    (λ c. search needs)
-    (λ c. search needs)
+    (search needs)
+    (search needs)
+    (search needs)
     loop-again
     returns
     returns-2)

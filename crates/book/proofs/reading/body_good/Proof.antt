@@ -1,4 +1,4 @@
--- `book::reading::body_good` meets its contract: each answer is that of the tests on its way. Assumes nothing.
+-- `book::reading::body_good` meets its contract: each answer is that of the tests on its way.
 use native.Mathlib.Omega.{arith}
 use denote.Ref.{now}
 use lib.ListN.{length}

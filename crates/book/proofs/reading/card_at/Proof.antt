@@ -1,10 +1,10 @@
--- `book::reading::card_at` meets its contract: the symbols of the twelve bytes are the card's. Assumes nothing.
+-- `book::reading::card_at` meets its contract: the symbols of the twelve bytes are the card's.
 use mathlib.Core.Path.{_≡_, _∙_}
 use Prim.Native.Nat.{_*_, _-_}
 use native.Mathlib.Omega.{arith}
 use denote.Ref.{now}
 use borrow.Author.Needs.{needs}
-use Rattle.book.specs.Cards.{card-part}
+use Rattle.book.specs.CardReading.{card-part}
 use Rattle.book.proofs.reading.card_at.Statement.{statement}
 use Rattle.book.proofs.reading.card_at.Tie as tie
 
@@ -19,11 +19,11 @@ pub card-at-spec : {M : Type 1} → statement M
 card-at-spec =
     tie.close
     (tie.spec
-    (λ c. search needs)
-    (λ c. search needs)
-    (λ c. search needs)
-    (λ c. search needs)
-    (λ c. search needs)
-    (λ c. search needs)
-    (λ c κs. search needs)
+    (search needs)
+    (search needs)
+    (search needs)
+    (search needs)
+    (search needs)
+    (search needs)
+    (search needs)
     returns)

@@ -1,4 +1,4 @@
--- `book::reading::no_card` meets its contract: each answer is that of the tests on its way. Assumes nothing.
+-- `book::reading::no_card` meets its contract: each answer is that of the tests on its way.
 use borrow.Author.Tests.{eq-eqb, ne-eqb}
 use Rattle.book.specs.Reading.{no-card}
 use Rattle.book.proofs.reading.no_card.Statement.{statement}

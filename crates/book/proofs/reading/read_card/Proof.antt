@@ -1,4 +1,4 @@
--- `book::reading::read_card` meets its contract: the tests in their order, then the card. Assumes nothing.
+-- `book::reading::read_card` meets its contract: the tests in their order, then the card.
 use mathlib.Core.Path.{_≡_, sym, _∙_}
 use mathlib.Core.Bool.{true, false}
 use denote.Ref.{now}
@@ -6,7 +6,7 @@ use borrow.Author.Needs.{needs}
 use borrow.Author.Tests.{not-false}
 use Rattle.book.specs.Layout.{body-good}
 use Rattle.book.specs.Reading.{no-card}
-use Rattle.book.specs.Cards.{read-bad, read-past, read-there, card-there}
+use Rattle.book.specs.CardReading.{read-bad, read-past, read-there, card-there}
 use Rattle.book.proofs.reading.read_card.Statement.{statement}
 use Rattle.book.proofs.reading.read_card.Tie as tie
 
@@ -37,10 +37,10 @@ pub read-card-spec : {M : Type 1} → statement M
 read-card-spec =
     tie.close
     (tie.spec
-    (λ c κs. search needs)
+    (search needs)
     returns
-    (λ c κs. search needs)
+    (search needs)
     returns-2
     card-at-requires
-    (λ c κs. search needs)
+    (search needs)
     returns-3)

@@ -1,17 +1,16 @@
--- `book::reading::read_symbols` meets its contract: it goes by what `any_above` and `decode_card` answer, as `card-refusal` does. Assumes
--- nothing.
+-- `book::reading::read_symbols` meets its contract: it goes by what `any_above` and `decode_card` answer, as `card-refusal` does.
 use mathlib.Core.Path.{_≡_, sym, _∙_}
 use mathlib.Core.Bool.{false}
 use native.Mathlib.Omega.{arith}
 use borrow.Author.Needs.{needs}
 use borrow.Author.Tests.{not-true, not-false}
 use Rattle.algebra.specs.Tests.{any-above}
-use Rattle.book.specs.Cards.{said-range, said-none, said-found, found-message, decoded-message, card-passes}
+use Rattle.book.specs.CardReading.{card-range, found-none, found-strike, found-near, decoded-message, card-passes}
 use Rattle.book.proofs.reading.read_symbols.Statement.{statement}
 use Rattle.book.proofs.reading.read_symbols.Tie as tie
 
 returns : tie.Need-returns
-returns c = said-range _ (sym (c .before .any-above .ensures) ∙ c .if1 .taken)
+returns c = card-range _ (sym (c .before .any-above .ensures) ∙ c .if1 .taken)
 
 -- past the first test no symbol is above 728
 inside : (c : tie.Else1) → any-above 728 (c .before .before .before .args .t1) ≡ false
@@ -25,28 +24,29 @@ decode-card-requires c κs =
 returns-2 : tie.Need-returns-2
 returns-2 c =
     let d = c .before .before in
-    said-none _ (d .decode-card .result) (inside (d .before)) (d .decode-card .ensures .0) (not-true _ (c .if2 .taken))
+    found-none _ (d .decode-card .result) (inside (d .before)) (d .decode-card .ensures .0) (not-true _ (c .if2 .taken))
 
-meaning-requires : tie.Need-meaning-requires
-meaning-requires c κs =
-    let d = c .before .before .before in
-    decoded-message _ _ (found-message _ (d .decode-card .result) (inside (d .before)) (d .decode-card .ensures .0) (not-false _ (c .before .if2 .left)))
+strike-of-requires : tie.Need-strike-of-requires
+strike-of-requires c κs =
+    let e = c .before .before in
+    let d = e .before .before in
+    decoded-message _ _ (found-near _ (d .decode-card .result) (inside (d .before)) (d .decode-card .ensures .0) (not-false _ (e .if2 .left)))
 
 returns-3 : tie.Need-returns-3
 returns-3 c =
-    let e = c .before .before in
+    let e = c .before .before .before in
     let d = e .before .before in
-    c .meaning .ensures
-    ∙ said-found _ (d .decode-card .result) (inside (d .before)) (d .decode-card .ensures .0) (d .decode-card .ensures .1) (not-false _ (e .if2 .left))
+    rw (c .strike-of .ensures)
+    (found-strike _ (d .decode-card .result) (inside (d .before)) (d .decode-card .ensures .0) (d .decode-card .ensures .1) (not-false _ (e .if2 .left)))
 
 pub read-symbols-spec : {M : Type 1} → statement M
 read-symbols-spec =
     tie.close
     (tie.spec
-    (λ c. search needs)
-    (λ c κs. search needs)
+    (search needs)
+    (search needs)
     returns
     decode-card-requires
     returns-2
-    meaning-requires
+    strike-of-requires
     returns-3)

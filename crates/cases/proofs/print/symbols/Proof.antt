@@ -1,4 +1,4 @@
--- `cases::print::symbols` is safe and ends: what is left of the list falls, and a symbol read from it fits. Assumes nothing.
+-- `cases::print::symbols` is safe and ends: what is left of the list falls, and a symbol read from it fits.
 use Prim.Native.Nat.{_-_}
 use native.Mathlib.Omega.{arith}
 use lib.ListN.{length}
@@ -21,12 +21,12 @@ symbols-spec =
     (tie.spec
     Inv-loop
     μ-loop
-    (λ c. search needs)
-    (λ c. search needs)
-    (λ c. search needs)
+    (search needs)
+    (search needs)
+    (search needs)
     cast-number
-    (λ c κs. search needs)
-    (λ c. search needs)
-    (λ c. search needs)
-    (λ c. search needs)
-    (λ c. search needs))
+    (search needs)
+    (search needs)
+    (search needs)
+    (search needs)
+    (search needs))

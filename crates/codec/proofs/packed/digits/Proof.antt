@@ -1,6 +1,6 @@
--- `codec::packed::digits` meets its contract: each digit is a quotient less three times the next. Assumes nothing.
+-- `codec::packed::digits` meets its contract: each digit is a quotient less three times the next.
 use borrow.Author.Needs.{needs}
-use Rattle.codec.specs.Packed.{digits-are}
+use Rattle.transform.specs.Packed.{digits-are}
 use Rattle.codec.proofs.packed.digits.Statement.{statement}
 use Rattle.codec.proofs.packed.digits.Tie as tie
 
@@ -11,14 +11,14 @@ pub digits-spec : {M : Type 1} → statement M
 digits-spec =
     tie.close
     (tie.spec
-    (λ c. search needs)
-    (λ c. search needs)
-    (λ c. search needs)
-    (λ c. search needs)
-    (λ c. search needs)
-    (λ c. search needs)
-    (λ c. search needs)
-    (λ c. search needs)
-    (λ c. search needs)
-    (λ c. search needs)
+    (search needs)
+    (search needs)
+    (search needs)
+    (search needs)
+    (search needs)
+    (search needs)
+    (search needs)
+    (search needs)
+    (search needs)
+    (search needs)
     returns)

@@ -1,13 +1,13 @@
--- `codec::packed::halves` meets its contract: the rests are those of the definition. Assumes nothing.
+-- `codec::packed::halves` meets its contract: the remainders are those of the definition.
 use mathlib.Core.Path.{ap}
 use borrow.Author.Needs.{needs}
-use Rattle.coding.specs.Rests.{halved, halves}
+use Rattle.transform.specs.Remainders.{halved, halves}
 use Rattle.codec.proofs.packed.halves.Statement.{statement}
 use Rattle.codec.proofs.packed.halves.Tie as tie
 
 returns : tie.Need-returns
 unfolding halves halved
-returns c = ap halved (c .rests .ensures .0)
+returns c = ap halved (c .remainders .ensures .0)
 
 pub halves-spec : {M : Type 1} → statement M
 halves-spec =

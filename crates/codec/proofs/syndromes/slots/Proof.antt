@@ -1,10 +1,10 @@
--- `codec::syndromes::slots` meets its contract: the function of k, for each of its five values. Assumes nothing.
+-- `codec::syndromes::slots` meets its contract: the function of k, for each of its five values.
 use mathlib.Core.Path.{ap, _∙_}
 use Prim.Native.Nat.{ℕ}
 use native.Mathlib.Omega.{arith}
 use borrow.Author.Needs.{needs}
 use Rattle.algebra.specs.Lists.{table}
-use Rattle.coding.specs.Slots.{slot}
+use Rattle.transform.specs.Slots.{slot}
 use Rattle.codec.proofs.syndromes.slots.Statement.{statement}
 use Rattle.codec.proofs.syndromes.slots.Tie as tie
 
@@ -27,11 +27,11 @@ pub slots-spec : {M : Type 1} → statement M
 slots-spec =
     tie.close
     (tie.spec
-    (λ c κs. search needs)
-    (λ c κs. search needs)
-    (λ c κs. search needs)
-    (λ c κs. search needs)
-    (λ c κs. search needs)
+    (search needs)
+    (search needs)
+    (search needs)
+    (search needs)
+    (search needs)
     returns
     returns-2
     returns-3

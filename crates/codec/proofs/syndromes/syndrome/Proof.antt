@@ -5,8 +5,9 @@ use native.Mathlib.Omega.{arith}
 use lib.ListN.{length}
 use denote.Ref.{now}
 use borrow.Author.Needs.{needs}
-use Rattle.codec.specs.Refusals.{no-refusal, syndrome-passed, tested-refused, tested-done}
-use Rattle.codec.specs.Filling.{filled-rest}
+use Rattle.refusal.specs.Replies.{no-refusal}
+use Rattle.codec.specs.Refusals.{syndrome-passed, tested-refused, tested-done}
+use Rattle.lists.specs.Filling.{filled-rest}
 use Rattle.codec.proofs.syndromes.syndrome.Statement.{statement}
 use Rattle.codec.proofs.syndromes.syndrome.Tie as tie
 
@@ -54,17 +55,17 @@ pub syndrome-spec : {M : Type 1} → statement M
 syndrome-spec =
     tie.close
     (tie.spec
-    (λ c κs. search needs)
-    (λ c. search needs)
+    (search needs)
+    (search needs)
     returns
-    (λ c. search needs)
+    (search needs)
     values-list-requires
-    (λ c. search needs)
+    (search needs)
     sub-from
-    (λ c. search needs)
+    (search needs)
     sub-fill
     part-fill-start
-    (λ c. search needs)
+    (search needs)
     fill-requires
-    (λ c. search needs)
+    (search needs)
     returns-2)

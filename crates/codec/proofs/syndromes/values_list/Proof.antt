@@ -1,4 +1,4 @@
--- `codec::syndromes::values_list` meets its contract: six entries are the list. Assumes nothing.
+-- `codec::syndromes::values_list` meets its contract: six entries are the list.
 use borrow.Author.Needs.{needs}
 use denote.Ref.{now}
 use Rattle.rank.specs.Arrays.{six}
@@ -14,11 +14,11 @@ pub values-list-spec : {M : Type 1} → statement M
 values-list-spec =
     tie.close
     (tie.spec
-    (λ c. search needs)
-    (λ c. search needs)
-    (λ c. search needs)
-    (λ c. search needs)
-    (λ c. search needs)
-    (λ c. search needs)
-    (λ c κs. search needs)
+    (search needs)
+    (search needs)
+    (search needs)
+    (search needs)
+    (search needs)
+    (search needs)
+    (search needs)
     returns)

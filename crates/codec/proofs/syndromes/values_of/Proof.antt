@@ -1,10 +1,10 @@
--- `codec::syndromes::values_of` meets its contract: the two values of each slot, in their places. Assumes nothing.
+-- `codec::syndromes::values_of` meets its contract: the two values of each slot, in their places.
 use mathlib.Core.Path.{ap, _∙_}
 use mathlib.Core.List.{List}
 use Prim.Native.Nat.{ℕ, _*_, _-_}
 use lib.ListN.{drop}
 use borrow.Author.Needs.{needs}
-use Rattle.coding.specs.Slots.{places, places-are}
+use Rattle.transform.specs.Slots.{places, places-are}
 use Rattle.codec.proofs.syndromes.values_of.Statement.{statement}
 use Rattle.codec.proofs.syndromes.values_of.Tie as tie
 
@@ -18,15 +18,15 @@ pub values-of-spec : {M : Type 1} → statement M
 values-of-spec =
     tie.close
     (tie.spec
-    (λ c κs. search needs)
-    (λ c. search needs)
-    (λ c. search needs)
-    (λ c. search needs)
-    (λ c. search needs)
-    (λ c. search needs)
-    (λ c. search needs)
-    (λ c. search needs)
-    (λ c. search needs)
-    (λ c. search needs)
-    (λ c. search needs)
+    (search needs)
+    (search needs)
+    (search needs)
+    (search needs)
+    (search needs)
+    (search needs)
+    (search needs)
+    (search needs)
+    (search needs)
+    (search needs)
+    (search needs)
     returns)

@@ -1,4 +1,4 @@
--- `decoder::decoding::decode` meets its contract: the tests decide, then the search, and then both lists are filled. Assumes nothing.
+-- `decoder::decoding::decode` meets its contract: the tests decide, then what was found, and then both lists are filled.
 use mathlib.Core.Path.{_≡_, sym, ap, _∙_}
 use mathlib.Core.Bool.{true}
 use mathlib.Core.List.{List}
@@ -10,10 +10,12 @@ use lib.Seq.{take-all}
 use denote.Ref.{now}
 use borrow.Author.Needs.{needs}
 use borrow.Author.Tests.{not-true, not-false}
-use Rattle.rank.specs.Definitions.{is-card, apart}
+use Rattle.rank.specs.Definitions.{is-card, difference}
+use Rattle.rank.specs.Weight.{weight-of}
 use Rattle.coding.specs.Code.{word}
-use Rattle.codec.specs.Refusals.{no-refusal, decode-passed, decoded-refused, decoded-none, decoded-done}
-use Rattle.candidate.specs.Finding.{answer-some, answer-none, found-long}
+use Rattle.refusal.specs.Replies.{no-refusal}
+use Rattle.candidate.specs.Finding.{message-some, message-none, found-long}
+use Rattle.decoder.specs.Decoding.{decode-passed, decoded-refused, decoded-none, decoded-done}
 use Rattle.decoder.proofs.decoding.decode.Statement.{statement}
 use Rattle.decoder.proofs.decoding.decode.Tie as tie
 
@@ -49,7 +51,7 @@ returns-2 c =
     let t = e .before .before in
     let s = t .before .before .before .before in
     decoded-none (s .args .k) (now (s .args .received)) (now (s .args .word)) (now (s .args .message)) _ (t .decode-tests .ensures) (e .enum-told .given .1)
-    (sym (d .decode-list .ensures .0) ∙ answer-none (s .args .k) (d .decode-list .result) (not-true _ (c .if1 .taken)))
+    (sym (d .decode-list .ensures .0) ∙ message-none (s .args .k) (d .decode-list .result) (not-true _ (c .if1 .taken)))
 
 fill-requires : tie.Need-fill-requires
 fill-requires c κs =
@@ -77,25 +79,24 @@ returns-3 c =
     let message : _ ≡ take (2 * k) (near .message) = c .before .before .before .fill2 .ensures ∙ ap (λ (n : ℕ). take n (near .message)) (passed d .5) in
     let word-is : _ ≡ near .word = f .fill .ensures ∙ ap (λ (n : ℕ). take n (near .word)) (passed d .4) ∙ take-all 6 (near .word) (omega (arith, long d found .0)) in
     decoded-done k (now (s .args .received)) (now (s .args .word)) (now (s .args .message)) _ (t .decode-tests .ensures) (e .enum-told .given .1) _ _ _
-    (sym (d .decode-list .ensures .0) ∙ answer-some k near found ∙ ap some (sym message))
+    (sym (d .decode-list .ensures .0) ∙ message-some k near found ∙ ap some (sym message))
     (word-is ∙ d .decode-list .ensures .1 .word-is found ∙ ap (word k) (sym message))
-    (d .decode-list .ensures .1 .distance-is found ∙ ap (λ (v : List ℕ). apart v (now (s .args .received))) (sym word-is))
+    (d .decode-list .ensures .1 .weight-is found ∙ ap (λ (v : List ℕ). weight-of (difference v (now (s .args .received)))) (sym word-is))
 
 pub decode-spec : {M : Type 1} → statement M
 decode-spec =
     tie.close
     (tie.spec
     (λ c κs. search needs)
-    (λ c. search needs)
+    (search needs)
     returns
-    (λ c. search needs)
+    (search needs)
     decode-list-requires
     returns-2
     (λ c. search needs)
     fill-requires
     (λ c. search needs)
     fill-requires-2
-    (λ c. search needs)
-    (λ c. search needs)
-    (λ c. search needs)
+    (search needs)
+    (search needs)
     returns-3)

@@ -1,4 +1,4 @@
--- `decoder::decoding::decode_card` meets its contract: k = 1 by itself, else the test of the spectrum decides. Assumes nothing.
+-- `decoder::decoding::decode_card` meets its contract: k = 1 by itself, else the test of the spectrum decides.
 use mathlib.Core.Path.{sym, _∙_}
 use native.Mathlib.Omega.{arith}
 use borrow.Author.Needs.{needs}

@@ -1,4 +1,4 @@
--- `decoder::decoding::decode_list` meets its contract: six entries are the list. Assumes nothing.
+-- `decoder::decoding::decode_list` meets its contract: six entries are the list.
 use native.Mathlib.Omega.{arith}
 use denote.Ref.{now}
 use Rattle.rank.specs.Arrays.{six}
@@ -20,11 +20,11 @@ pub decode-list-spec : {M : Type 1} → statement M
 decode-list-spec =
     tie.close
     (tie.spec
-    (λ c. search needs)
-    (λ c. search needs)
-    (λ c. search needs)
-    (λ c. search needs)
-    (λ c. search needs)
-    (λ c. search needs)
+    (search needs)
+    (search needs)
+    (search needs)
+    (search needs)
+    (search needs)
+    (search needs)
     decode-card-requires
     returns)

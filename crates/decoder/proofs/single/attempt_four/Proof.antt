@@ -1,10 +1,7 @@
--- `decoder::single::attempt_four` meets its contract: the first coefficient decides, or else all of them do. Assumes nothing.
-use mathlib.Core.Path.{sym, ap, _∙_}
-use Rattle.rank.specs.Definitions.{at}
-use Rattle.coding.specs.Closed.{if-closed}
-use Rattle.coding.specs.DecodeSingle.{attempt-four}
-use Rattle.candidate.specs.Finding.{answer-none, whole-none}
-use Rattle.decoder.specs.Singles.{four-none}
+-- `decoder::single::attempt_four` meets its contract: the first coefficient refuses, or else all of them decide.
+use mathlib.Core.Path.{sym, _∙_}
+use Rattle.candidate.specs.Finding.{message-none, consistent-none}
+use Rattle.decoder.specs.Singles.{four-some, four-none}
 use borrow.Author.Needs.{needs}
 use Rattle.decoder.proofs.single.attempt_four.Statement.{statement}
 use Rattle.decoder.proofs.single.attempt_four.Tie as tie
@@ -14,16 +11,17 @@ returns c =
     let h = c .before .before in
     let u = h .before .before in
     let s = u .before in (
-      answer-none 4 _ (c .nothing .ensures)
-          ∙ sym (four-none (at (s .args .r)) (s .args .d) _ _ (u .last-error .ensures) (h .before .first-coefficient .ensures) (λ z. c .before .if1 .taken (h .high .ensures ∙ z))),
-      λ d card er. whole-none 4 d _ (c .nothing .ensures),
+      message-none 4 _ (c .nothing .ensures)
+          ∙ sym (four-none (s .args .card) _ (s .pre .0) (s .args .d) _ (u .last-error .ensures) _ (h .before .first-coefficient .ensures)
+          (λ z. c .before .if1 .taken (h .high .ensures ∙ z))),
+      consistent-none 4 (s .args .card) _ (c .nothing .ensures),
     )
 
 returns-2 : tie.Need-returns-2
-unfolding attempt-four
 returns-2 c =
     let u = c .before .before .before .before in
-    (c .find-single .ensures .0 ∙ ap (if-closed 4 (at (u .before .args .r))) (u .last-error .ensures), c .find-single .ensures .1)
+    let s = u .before in
+    (c .find-single .ensures .0 ∙ four-some (s .args .card) _ (s .pre .0) (s .args .d) _ (u .last-error .ensures), c .find-single .ensures .1)
 
 pub attempt-four-spec : {M : Type 1} → statement M
 attempt-four-spec =

@@ -1,4 +1,4 @@
--- `decoder::single::first_coefficient` meets its contract: the first coefficient of the error, and what is left. Assumes nothing.
+-- `decoder::single::first_coefficient` meets its contract: the first coefficient of the error, and what is left.
 use Rattle.rank.specs.Definitions.{at}
 use Rattle.coding.specs.RankOne.{next-error}
 use borrow.Author.Needs.{needs}
@@ -13,10 +13,10 @@ pub first-coefficient-spec : {M : Type 1} → statement M
 first-coefficient-spec =
     tie.close
     (tie.spec
-    (λ c. search needs)
-    (λ c. search needs)
+    (search needs)
+    (search needs)
     (λ c κs. search needs)
-    (λ c. search needs)
+    (search needs)
     (λ c κs. search needs)
     (λ c κs. search needs)
     returns)

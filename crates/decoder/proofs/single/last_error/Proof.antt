@@ -1,4 +1,4 @@
--- `decoder::single::last_error` meets its contract: gamma times a small symbol, and a difference. Assumes nothing.
+-- `decoder::single::last_error` meets its contract: gamma times a small symbol, and a difference.
 use Rattle.rank.specs.Definitions.{at}
 use Rattle.coding.specs.DecodeSingle.{last-error}
 use borrow.Author.Needs.{needs}
@@ -10,4 +10,4 @@ unfolding last-error at
 returns c = cc
 
 pub last-error-spec : {M : Type 1} → statement M
-last-error-spec = tie.close (tie.spec (λ c. search needs) (λ c κs. search needs) (λ c κs. search needs) (λ c κs. search needs) returns)
+last-error-spec = tie.close (tie.spec (search needs) (λ c κs. search needs) (λ c κs. search needs) (λ c κs. search needs) returns)

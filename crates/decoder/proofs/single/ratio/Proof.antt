@@ -1,4 +1,4 @@
--- `decoder::single::ratio` meets its contract: a cube and a quotient. Assumes nothing.
+-- `decoder::single::ratio` meets its contract: a cube and a quotient.
 use mathlib.Core.Path.{ap, _∙_}
 use Rattle.algebra.specs.Field.{times}
 use Rattle.algebra.specs.Products.{times-comm}

@@ -1,4 +1,4 @@
--- `field::cube` meets its contract: the table is computed once from the definition, and read at the symbol. Assumes nothing.
+-- `field::cube` meets its contract: the table is computed once from the definition, and read at the symbol.
 use mathlib.Core.Path.{_∙_}
 use Prim.Native.Nat.{_%_}
 use native.Mathlib.Nat.{mod-lt}

@@ -1,4 +1,4 @@
--- `field::cube_product_with` meets its contract: one exponent and three times the other come round after 728. Assumes nothing.
+-- `field::cube_product_with` meets its contract: one exponent and three times the other come round after 728.
 use mathlib.Core.Path.{sym, ap, _∙_}
 use native.Mathlib.Omega.{arith}
 use borrow.Author.Needs.{needs}
@@ -24,18 +24,18 @@ pub cube-product-with-spec : {M : Type 1} → statement M
 cube-product-with-spec =
     tie.close
     (tie.spec
-    (λ c. search needs)
-    (λ c. search needs)
+    (search needs)
+    (search needs)
     returns
     returns-2
-    (λ c. search needs)
-    (λ c. search needs)
+    (search needs)
+    (search needs)
     (λ c. let s = c .before .before .before in omega (arith, logs-small (s .pre) (s .args .a) (s .args .b)))
-    (λ c. search needs)
-    (λ c. search needs)
+    (search needs)
+    (search needs)
     (λ c. let s = c .before .before .before .before in omega (arith, logs-small (s .pre) (s .args .a) (s .args .b)))
     (λ c. let s = c .before .before .before .before in omega (arith, logs-small (s .pre) (s .args .a) (s .args .b)))
     (λ c. let s = c .before .before .before .before in omega (arith, logs-small (s .pre) (s .args .a) (s .args .b)))
-    (λ c. search needs)
-    (λ c. search needs)
+    (search needs)
+    (search needs)
     returns-3)

@@ -1,4 +1,4 @@
--- `field::cube_with` meets its contract: the exponent that is read is taken three times, and comes round after 728. Assumes nothing.
+-- `field::cube_with` meets its contract: the exponent that is read is taken three times, and comes round after 728.
 use native.Mathlib.Omega.{arith}
 use borrow.Author.Needs.{needs}
 use Rattle.field.specs.Tables.{zero-cube, log-small, cube-read}
@@ -15,12 +15,12 @@ pub cube-with-spec : {M : Type 1} → statement M
 cube-with-spec =
     tie.close
     (tie.spec
-    (λ c. search needs)
+    (search needs)
     returns
-    (λ c. search needs)
-    (λ c. search needs)
+    (search needs)
+    (search needs)
     (λ c. let s = c .before .before in omega (arith, log-small (s .pre) (s .args .a)))
     (λ c. let s = c .before .before in omega (arith, log-small (s .pre) (s .args .a)))
-    (λ c. search needs)
-    (λ c. search needs)
+    (search needs)
+    (search needs)
     returns-2)

@@ -1,4 +1,4 @@
--- `field::inverse_with` meets its contract: the exponent that is read is taken from 728. Assumes nothing.
+-- `field::inverse_with` meets its contract: the exponent that is read is taken from 728.
 use mathlib.Core.Path.{sym}
 use native.Mathlib.Omega.{arith}
 use borrow.Author.Needs.{needs}
@@ -24,13 +24,13 @@ pub inverse-with-spec : {M : Type 1} → statement M
 inverse-with-spec =
     tie.close
     (tie.spec
-    (λ c. search needs)
+    (search needs)
     returns
-    (λ c. search needs)
-    (λ c. search needs)
+    (search needs)
+    (search needs)
     (λ c. let s = c .before .before in omega (arith, log-small (s .pre) (s .args .a)))
     (λ c. let s = c .before .before .before in omega (arith, log-small (s .pre) (s .args .a)))
-    (λ c. search needs)
-    (λ c. search needs)
+    (search needs)
+    (search needs)
     returns-2
     returns-3)

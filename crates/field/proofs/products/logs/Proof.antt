@@ -1,4 +1,4 @@
--- `field::logs` meets its contract: the table is computed once from the definition. Assumes nothing.
+-- `field::logs` meets its contract: the table is computed once from the definition.
 use mathlib.Core.Path.{refl}
 use Rattle.algebra.specs.Lists.{table}
 use Rattle.algebra.specs.Linear.{computing}

@@ -1,4 +1,4 @@
--- `field::powers` meets its contract: the table is computed once from the definition. Assumes nothing.
+-- `field::powers` meets its contract: the table is computed once from the definition.
 use mathlib.Core.Path.{refl}
 use Rattle.algebra.specs.Linear.{computing}
 use Rattle.algebra.specs.Products.{orbit}

@@ -1,4 +1,4 @@
--- `field::product_with` meets its contract: the tables are read by the rests, and the exponents come round after 728. Assumes nothing.
+-- `field::product_with` meets its contract: the tables are read by the remainders, and the exponents come round after 728.
 use native.Mathlib.Omega.{arith}
 use borrow.Author.Needs.{needs}
 use Rattle.field.specs.Tables.{zero-left, zero-right, logs-small, product-near, product-round}
@@ -27,19 +27,19 @@ pub product-with-spec : {M : Type 1} → statement M
 product-with-spec =
     tie.close
     (tie.spec
-    (λ c. search needs)
-    (λ c. search needs)
+    (search needs)
+    (search needs)
     returns
     returns-2
-    (λ c. search needs)
-    (λ c. search needs)
+    (search needs)
+    (search needs)
     (λ c. let s = c .before .before .before in omega (arith, logs-small (s .pre) (s .args .a) (s .args .b)))
-    (λ c. search needs)
-    (λ c. search needs)
+    (search needs)
+    (search needs)
     (λ c. let s = c .before .before .before .before in omega (arith, logs-small (s .pre) (s .args .a) (s .args .b)))
     (λ c. let s = c .before .before .before .before in omega (arith, logs-small (s .pre) (s .args .a) (s .args .b)))
-    (λ c. search needs)
-    (λ c. search needs)
+    (search needs)
+    (search needs)
     (λ c. let s = c .before .before .before .before .before in omega (arith, logs-small (s .pre) (s .args .a) (s .args .b)))
     (λ c. let s = c .before .before .before .before .before in omega (arith, logs-small (s .pre) (s .args .a) (s .args .b)))
     returns-3

@@ -1,4 +1,4 @@
--- `field::quotient_with` meets its contract: the exponents are subtracted, and come round after 728. Assumes nothing.
+-- `field::quotient_with` meets its contract: the exponents are subtracted, and come round after 728.
 use mathlib.Core.Path.{sym, ap, _∙_}
 use native.Mathlib.Omega.{arith}
 use borrow.Author.Needs.{needs}
@@ -27,18 +27,18 @@ pub quotient-with-spec : {M : Type 1} → statement M
 quotient-with-spec =
     tie.close
     (tie.spec
-    (λ c. search needs)
-    (λ c. search needs)
+    (search needs)
+    (search needs)
     returns
     returns-2
-    (λ c. search needs)
-    (λ c. search needs)
+    (search needs)
+    (search needs)
     (λ c. let s = c .before .before .before in omega (arith, logs-small (s .pre) (s .args .a) (s .args .b)))
     (λ c. let s = c .before .before .before in omega (arith, logs-small (s .pre) (s .args .a) (s .args .b)))
-    (λ c. search needs)
-    (λ c. search needs)
+    (search needs)
+    (search needs)
     (λ c. let s = c .before .before .before .before in omega (arith, logs-small (s .pre) (s .args .a) (s .args .b)))
     (λ c. let s = c .before .before .before .before in omega (arith, logs-small (s .pre) (s .args .a) (s .args .b)))
-    (λ c. search needs)
-    (λ c. search needs)
+    (search needs)
+    (search needs)
     returns-3)

@@ -1,4 +1,4 @@
--- `field::high` meets its contract: the formula passed a test of all symbols. Assumes nothing.
+-- `field::high` meets its contract: the formula passed a test of all symbols.
 use borrow.Author.Needs.{needs}
 use Rattle.field.specs.Small.{high-is}
 use Rattle.field.proofs.small.high.Statement.{statement}
@@ -11,17 +11,17 @@ pub high-spec : {M : Type 1} → statement M
 high-spec =
     tie.close
     (tie.spec
-    (λ c. search needs)
-    (λ c. search needs)
-    (λ c. search needs)
-    (λ c. search needs)
-    (λ c. search needs)
-    (λ c. search needs)
-    (λ c. search needs)
-    (λ c. search needs)
-    (λ c. search needs)
-    (λ c. search needs)
-    (λ c. search needs)
-    (λ c. search needs)
-    (λ c. search needs)
+    (search needs)
+    (search needs)
+    (search needs)
+    (search needs)
+    (search needs)
+    (search needs)
+    (search needs)
+    (search needs)
+    (search needs)
+    (search needs)
+    (search needs)
+    (search needs)
+    (search needs)
     returns)

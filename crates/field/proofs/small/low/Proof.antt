@@ -1,4 +1,4 @@
--- `field::low` meets its contract: the formula passed a test of all symbols. Assumes nothing.
+-- `field::low` meets its contract: the formula passed a test of all symbols.
 use borrow.Author.Needs.{needs}
 use Rattle.field.specs.Small.{low-is}
 use Rattle.field.proofs.small.low.Statement.{statement}
@@ -11,15 +11,15 @@ pub low-spec : {M : Type 1} → statement M
 low-spec =
     tie.close
     (tie.spec
-    (λ c. search needs)
-    (λ c. search needs)
-    (λ c. search needs)
-    (λ c. search needs)
-    (λ c. search needs)
-    (λ c. search needs)
-    (λ c. search needs)
-    (λ c. search needs)
-    (λ c. search needs)
-    (λ c. search needs)
-    (λ c. search needs)
+    (search needs)
+    (search needs)
+    (search needs)
+    (search needs)
+    (search needs)
+    (search needs)
+    (search needs)
+    (search needs)
+    (search needs)
+    (search needs)
+    (search needs)
     returns)

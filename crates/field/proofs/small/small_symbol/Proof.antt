@@ -1,4 +1,4 @@
--- `field::small_symbol` meets its contract: the formula passed a test of the 27 small numbers. Assumes nothing.
+-- `field::small_symbol` meets its contract: the formula passed a test of the 27 small numbers.
 use borrow.Author.Needs.{needs}
 use Rattle.field.specs.Small.{small-is}
 use Rattle.field.proofs.small.small_symbol.Statement.{statement}
@@ -11,18 +11,18 @@ pub small-symbol-spec : {M : Type 1} → statement M
 small-symbol-spec =
     tie.close
     (tie.spec
-    (λ c. search needs)
-    (λ c. search needs)
-    (λ c. search needs)
-    (λ c. search needs)
-    (λ c. search needs)
-    (λ c. search needs)
-    (λ c. search needs)
-    (λ c. search needs)
-    (λ c. search needs)
-    (λ c. search needs)
-    (λ c. search needs)
-    (λ c. search needs)
-    (λ c. search needs)
-    (λ c. search needs)
+    (search needs)
+    (search needs)
+    (search needs)
+    (search needs)
+    (search needs)
+    (search needs)
+    (search needs)
+    (search needs)
+    (search needs)
+    (search needs)
+    (search needs)
+    (search needs)
+    (search needs)
+    (search needs)
     returns)

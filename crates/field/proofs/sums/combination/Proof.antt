@@ -1,19 +1,19 @@
--- `field::combination` meets its contract: the six numbers are raised from the last symbol to the first, as the definition adds. Assumes nothing.
+-- `field::combination` meets its contract: the six numbers are raised from the last symbol to the first, as the definition adds.
 use mathlib.Core.Path.{sym, _∙_}
 use native.Mathlib.Omega.{arith}
 use borrow.Author.Needs.{needs}
-use Rattle.field.specs.Sums.{combined, zeros}
+use Rattle.field.specs.DigitSums.{combined, zeros-at}
 use Rattle.field.proofs.sums.combination.Statement.{statement}
 use Rattle.field.proofs.sums.combination.Tie as tie
 
 raised-requires : tie.Need-raised-requires
-raised-requires c κs k = omega (arith, zeros 6 k)
+raised-requires c κs k = omega (arith, zeros-at 6 k)
 
 raised-requires-2 : tie.Need-raised-requires-2
-raised-requires-2 c κs k = omega (arith, c .raised .ensures .1 k, zeros 6 k)
+raised-requires-2 c κs k = omega (arith, c .raised .ensures .1 k, zeros-at 6 k)
 
 raised-requires-3 : tie.Need-raised-requires-3
-raised-requires-3 c κs k = omega (arith, c .raised2 .ensures .1 k, c .before .raised .ensures .1 k, zeros 6 k)
+raised-requires-3 c κs k = omega (arith, c .raised2 .ensures .1 k, c .before .raised .ensures .1 k, zeros-at 6 k)
 
 raised-requires-4 : tie.Need-raised-requires-4
 raised-requires-4 c κs k =
@@ -22,7 +22,7 @@ raised-requires-4 c κs k =
       c .raised3 .ensures .1 k,
       c .before .raised2 .ensures .1 k,
       c .before .before .raised .ensures .1 k,
-      zeros 6 k,
+      zeros-at 6 k,
     )
 
 raised-requires-5 : tie.Need-raised-requires-5
@@ -33,7 +33,7 @@ raised-requires-5 c κs k =
       c .before .raised3 .ensures .1 k,
       c .before .before .raised2 .ensures .1 k,
       c .before .before .before .raised .ensures .1 k,
-      zeros 6 k,
+      zeros-at 6 k,
     )
 
 raised-requires-6 : tie.Need-raised-requires-6
@@ -45,7 +45,7 @@ raised-requires-6 c κs k =
       c .before .before .raised3 .ensures .1 k,
       c .before .before .before .raised2 .ensures .1 k,
       c .before .before .before .before .raised .ensures .1 k,
-      zeros 6 k,
+      zeros-at 6 k,
     )
 
 returns : tie.Need-returns
@@ -71,17 +71,17 @@ pub combination-spec : {M : Type 1} → statement M
 combination-spec =
     tie.close
     (tie.spec
-    (λ c. search needs)
+    (search needs)
     raised-requires
-    (λ c. search needs)
+    (search needs)
     raised-requires-2
-    (λ c. search needs)
+    (search needs)
     raised-requires-3
-    (λ c. search needs)
+    (search needs)
     raised-requires-4
-    (λ c. search needs)
+    (search needs)
     raised-requires-5
-    (λ c. search needs)
+    (search needs)
     raised-requires-6
-    (λ c κs. search needs)
+    (search needs)
     returns)

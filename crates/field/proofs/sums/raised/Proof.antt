@@ -1,8 +1,8 @@
--- `field::raised` meets its contract: the six numbers are raised by the symbol's quotients, and a digit 0 leaves them. Assumes nothing.
+-- `field::raised` meets its contract: the six numbers are raised by the symbol's quotients, and a digit 0 leaves them.
 use Prim.Native.Nat.{_/_}
 use native.Mathlib.Omega.{arith}
 use borrow.Author.Needs.{needs}
-use Rattle.field.specs.Sums.{twice, raise, raise-none, raise-bound}
+use Rattle.field.specs.DigitSums.{twice, raise, raise-none, raise-bound}
 use Rattle.field.proofs.sums.raised.Statement.{statement}
 use Rattle.field.proofs.sums.raised.Tie as tie
 
@@ -20,23 +20,23 @@ raised-spec =
     tie.close
     (tie.spec
     returns
-    (λ c. search needs)
-    (λ c. search needs)
+    (search needs)
+    (search needs)
     (λ c. omega (arith, twice (c .before .args .d) (c .before .args .a)))
     (λ c. omega (arith, twice (c .before .args .d) (c .before .args .a), c .before .pre 0))
-    (λ c. search needs)
+    (search needs)
     (λ c. omega (arith, twice (c .before .args .d) (c .before .args .a / 3)))
     (λ c. omega (arith, twice (c .before .args .d) (c .before .args .a / 3), c .before .pre 1))
-    (λ c. search needs)
+    (search needs)
     (λ c. omega (arith, twice (c .before .args .d) (c .before .args .a / 9)))
     (λ c. omega (arith, twice (c .before .args .d) (c .before .args .a / 9), c .before .pre 2))
-    (λ c. search needs)
+    (search needs)
     (λ c. omega (arith, twice (c .before .args .d) (c .before .args .a / 27)))
     (λ c. omega (arith, twice (c .before .args .d) (c .before .args .a / 27), c .before .pre 3))
-    (λ c. search needs)
+    (search needs)
     (λ c. omega (arith, twice (c .before .args .d) (c .before .args .a / 81)))
     (λ c. omega (arith, twice (c .before .args .d) (c .before .args .a / 81), c .before .pre 4))
-    (λ c. search needs)
+    (search needs)
     (λ c. omega (arith, twice (c .before .args .d) (c .before .args .a / 243)))
     (λ c. omega (arith, twice (c .before .args .d) (c .before .args .a / 243), c .before .pre 5))
     returns-2)

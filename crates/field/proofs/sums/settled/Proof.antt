@@ -1,6 +1,6 @@
--- `field::settled` meets its contract: the rests by 3 are the digits. Assumes nothing.
+-- `field::settled` meets its contract: the remainders by 3 are the digits.
 use borrow.Author.Needs.{needs}
-use Rattle.field.specs.Sums.{settle}
+use Rattle.field.specs.DigitSums.{settle}
 use Rattle.field.proofs.sums.settled.Statement.{statement}
 use Rattle.field.proofs.sums.settled.Tie as tie
 
@@ -11,21 +11,21 @@ pub settled-spec : {M : Type 1} → statement M
 settled-spec =
     tie.close
     (tie.spec
-    (λ c. search needs)
-    (λ c. search needs)
-    (λ c. search needs)
-    (λ c. search needs)
-    (λ c. search needs)
-    (λ c. search needs)
-    (λ c. search needs)
-    (λ c. search needs)
-    (λ c. search needs)
-    (λ c. search needs)
-    (λ c. search needs)
-    (λ c. search needs)
-    (λ c. search needs)
-    (λ c. search needs)
-    (λ c. search needs)
-    (λ c. search needs)
-    (λ c. search needs)
+    (search needs)
+    (search needs)
+    (search needs)
+    (search needs)
+    (search needs)
+    (search needs)
+    (search needs)
+    (search needs)
+    (search needs)
+    (search needs)
+    (search needs)
+    (search needs)
+    (search needs)
+    (search needs)
+    (search needs)
+    (search needs)
+    (search needs)
     returns)

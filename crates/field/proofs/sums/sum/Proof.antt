@@ -1,6 +1,6 @@
--- `field::sum` meets its contract: each digit is the rest of a sum of quotients. Assumes nothing.
+-- `field::sum` meets its contract: each digit is the remainder of a sum of quotients.
 use borrow.Author.Needs.{needs}
-use Rattle.field.specs.Sums.{sum-is}
+use Rattle.field.specs.DigitSums.{sum-is}
 use Rattle.field.proofs.sums.sum.Statement.{statement}
 use Rattle.field.proofs.sums.sum.Tie as tie
 
@@ -11,21 +11,21 @@ pub sum-spec : {M : Type 1} → statement M
 sum-spec =
     tie.close
     (tie.spec
-    (λ c. search needs)
-    (λ c. search needs)
-    (λ c. search needs)
-    (λ c. search needs)
-    (λ c. search needs)
-    (λ c. search needs)
-    (λ c. search needs)
-    (λ c. search needs)
-    (λ c. search needs)
-    (λ c. search needs)
-    (λ c. search needs)
-    (λ c. search needs)
-    (λ c. search needs)
-    (λ c. search needs)
-    (λ c. search needs)
-    (λ c. search needs)
-    (λ c. search needs)
+    (search needs)
+    (search needs)
+    (search needs)
+    (search needs)
+    (search needs)
+    (search needs)
+    (search needs)
+    (search needs)
+    (search needs)
+    (search needs)
+    (search needs)
+    (search needs)
+    (search needs)
+    (search needs)
+    (search needs)
+    (search needs)
+    (search needs)
     returns)

@@ -1,4 +1,4 @@
--- `listing::lines::write_card` meets its contract: a strike and a refusal have each their kind of line. Assumes nothing.
+-- `listing::lines::write_card` meets its contract: a strike and a refusal have each their kind of line.
 use borrow.Author.Needs.{needs}
 use Rattle.listing.specs.Lines.{line-strike, line-refused}
 use Rattle.listing.proofs.lines.write_card.Statement.{statement}
@@ -6,7 +6,7 @@ use Rattle.listing.proofs.lines.write_card.Tie as tie
 
 write-strike-requires : tie.Need-write-strike-requires
 write-strike-requires c κs =
-    let e = line-strike (c .before .before .before .before .before .args .n) _ _ (c .before .before .read .given .1) in
+    let e = line-strike (c .before .before .before .before .before .args .n) _ _ _ (c .before .before .read .given .1) in
     rw e at (c .before .before .before .before .before .pre)
 
 write-refused-card-requires : tie.Need-write-refused-card-requires
@@ -18,7 +18,7 @@ write-refused-card-requires c κs =
 returns : tie.Need-returns
 returns c =
     let s = c .before .before .before .before .before .before .before .before in
-    rw (line-strike (s .args .n) _ _ (c .before .before .before .before .before .read .given .1)) (c .before .before .write-strike .ensures)
+    rw (line-strike (s .args .n) _ _ _ (c .before .before .before .before .before .read .given .1)) (c .before .before .write-strike .ensures)
 
 returns-2 : tie.Need-returns-2
 returns-2 c =
@@ -30,12 +30,12 @@ pub write-card-spec : {M : Type 1} → statement M
 write-card-spec =
     tie.close
     (tie.spec
-    (λ c. search needs)
+    (search needs)
     write-strike-requires
-    (λ c. search needs)
-    (λ c κs. search needs)
+    (search needs)
+    (search needs)
     write-refused-card-requires
-    (λ c. search needs)
+    (search needs)
     returns
-    (λ c. search needs)
+    (search needs)
     returns-2)

@@ -1,4 +1,4 @@
--- `listing::lines::write_refused_card` meets its contract: the parts of the line one after another. Assumes nothing.
+-- `listing::lines::write_refused_card` meets its contract: the parts of the line one after another.
 use native.Mathlib.Omega.{arith}
 use lib.ListN.{length-append}
 use borrow.Author.Needs.{needs}
@@ -41,9 +41,9 @@ write-refused-card-spec =
     tie.close
     (tie.spec
     write-decimal-requires
-    (λ c. search needs)
+    (search needs)
     write-word-requires
     write-spaced-requires
     write-byte-requires
-    (λ c. search needs)
+    (search needs)
     returns)

@@ -1,4 +1,4 @@
--- `listing::lines::write_strike` meets its contract: the parts of the line one after another. Assumes nothing.
+-- `listing::lines::write_strike` meets its contract: the parts of the line one after another.
 use native.Mathlib.Omega.{arith}
 use lib.ListN.{length-append}
 use borrow.Author.Needs.{needs}
@@ -65,5 +65,5 @@ write-strike-spec =
     write-spaced-requires-3
     write-spaced-requires-4
     write-byte-requires
-    (λ c. search needs)
+    (search needs)
     returns)

@@ -1,4 +1,4 @@
--- `listing::lines::write_ticks` meets its contract: it is a line of a word and a number. Assumes nothing.
+-- `listing::lines::write_ticks` meets its contract: it is a line of a word and a number.
 use borrow.Author.Needs.{needs}
 use Rattle.listing.specs.Listing.{ticks-line}
 use Rattle.listing.proofs.lines.write_ticks.Statement.{statement}

@@ -1,4 +1,4 @@
--- `listing::lines::write_tune_line` meets its contract: the parts of the line one after another. Assumes nothing.
+-- `listing::lines::write_tune_line` meets its contract: the parts of the line one after another.
 use native.Mathlib.Omega.{arith}
 use lib.ListN.{length-append}
 use borrow.Author.Needs.{needs}
@@ -40,10 +40,10 @@ pub write-tune-line-spec : {M : Type 1} → statement M
 write-tune-line-spec =
     tie.close
     (tie.spec
-    (λ c. search needs)
+    (search needs)
     write-word-requires
     write-spaced-requires
     write-spaced-requires-2
     write-byte-requires
-    (λ c. search needs)
+    (search needs)
     returns)

@@ -1,4 +1,4 @@
--- `listing::tunes::write_all` meets its contract: it goes by what `open` answers, as `listing` does. Assumes nothing.
+-- `listing::tunes::write_all` meets its contract: it goes by what `open` answers, as `listing` does.
 use mathlib.Core.Path.{_≡_, ap}
 use native.Mathlib.Omega.{arith}
 use denote.Ref.{now}
@@ -6,7 +6,7 @@ use borrow.Author.Needs.{needs}
 use lib.ListN.{length}
 use Rattle.book.specs.Layout.{tunes}
 use Rattle.book.specs.Accepted.{Accepted}
-use Rattle.refusal.specs.Answers.{told-value}
+use Rattle.refusal.specs.Replies.{answer-value}
 use Rattle.text.specs.Text.{book-refused}
 use Rattle.listing.specs.Listing.{listing}
 use Rattle.listing.specs.Lines.{listing-accepted, opened-refused}
@@ -23,7 +23,7 @@ refused c =
 -- the book was accepted: the listing is that of its tunes
 opened : (c : tie.After-count) → let s = c .before .before .before .before .before in
     Accepted (now (s .args .book)) × (c .count .given .0 .0 ≡ tunes (now (s .args .book)))
-opened c = told-value _ _ _ _ (c .count .given .1) (c .before .before .«open» .ensures)
+opened c = answer-value _ _ _ _ (c .count .given .1) (c .before .before .«open» .ensures)
 
 write-tunes-requires : tie.Need-write-tunes-requires
 write-tunes-requires c κs =
@@ -39,14 +39,14 @@ pub write-all-spec : {M : Type 1} → statement M
 write-all-spec =
     tie.close
     (tie.spec
-    (λ c κs. search needs)
-    (λ c. search needs)
-    (λ c κs. search needs)
+    (search needs)
+    (search needs)
+    (search needs)
     (λ c κs. omega (arith, ap length (refused c)))
-    (λ c. search needs)
-    (λ c. search needs)
+    (search needs)
+    (search needs)
     write-tunes-requires
-    (λ c. search needs)
+    (search needs)
     (λ c. rw (refused (c .before .before .before)) (c .before .before .write-book-refused .ensures))
-    (λ c. search needs)
+    (search needs)
     returns-2)

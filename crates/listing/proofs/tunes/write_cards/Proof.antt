@@ -1,11 +1,11 @@
--- `listing::tunes::write_cards` meets its contract: the lines of the cards before card n were written, and their delays added. Assumes
--- nothing.
+-- `listing::tunes::write_cards` meets its contract: the lines of the cards before card n were written, and their delays added.
 use mathlib.Core.Path.{_≡_, _∙_, ap}
 use Prim.Native.Nat.{_+_, _-_, _≤_, _*_}
 use native.Mathlib.Omega.{arith}
 use denote.Ref.{now}
 use borrow.Author.Needs.{needs}
-use Rattle.book.specs.Reading.{Spoken, cards-in, reading}
+use Rattle.refusal.specs.Replies.{Reply}
+use Rattle.book.specs.Reading.{Card-value, cards-in, reading}
 use Rattle.book.specs.CardLoops.{good-length, adding-fits}
 use Rattle.text.specs.Writing.{wrote-length}
 use Rattle.listing.specs.Lines.{CardsSo, cards-start, cards-room, cards-next, cards-end}
@@ -25,8 +25,8 @@ write-card-requires c κs =
 
 -- what is added is the card's delay
 added : (c : tie.After-delay Inv-loop μ-loop) → let l = c .before .before .before .before .before .before .before in
-    c .delay .result ≡ reading (now (l .before .before .before .args .body)) (l .loop .n) .delay
-added c = c .delay .ensures ∙ ap (λ (s : Spoken). s .delay) (c .before .before .before .before .before .read-card .ensures)
+    c .delay .result ≡ reading (now (l .before .before .before .args .body)) (l .loop .n) .value .strike .delay
+added c = c .delay .ensures ∙ ap (λ (r : Reply Card-value). r .value .strike .delay) (c .before .before .before .before .before .read-card .ensures)
 
 fits : (c : tie.After-delay Inv-loop μ-loop) → let l = c .before .before .before .before .before .before .before in
     (l .loop .n ≤ 5461) × (l .loop .ticks + c .delay .result ≤ 5462 * 728)
@@ -47,12 +47,12 @@ write-cards-spec =
     μ-loop
     (λ c. omega (arith, good-length _ (c .before .before .pre .0)))
     (λ c. cards-start _ _ _ (omega arith))
-    (λ c κs. search needs)
+    (search needs)
     write-card-requires
-    (λ c κs. search needs)
+    (search needs)
     (λ c. omega (arith, fits c .1))
     (λ c. omega (arith, fits c .0))
-    (λ c. search needs)
+    (search needs)
     loop-again
     (λ c. wrote-length (c .before .loop .inv .wrote))
     (λ c. cards-end (c .before .loop .inv) (omega arith)))

@@ -1,11 +1,10 @@
--- `listing::tunes::write_listing` meets its contract: where there is room for the longest listing there is room for this one. Assumes nothing.
+-- `listing::tunes::write_listing` meets its contract: where there is room for the longest listing there is room for this one.
 use mathlib.Core.Path.{_≡_}
 use native.Mathlib.Omega.{arith}
 use denote.Ref.{now}
 use borrow.Author.Needs.{needs}
 use lib.ListN.{length}
-use Rattle.refusal.specs.Answers.{answer}
-use Rattle.codec.specs.Answers.{unless}
+use Rattle.refusal.specs.Replies.{reply-with, unless}
 use Rattle.text.specs.Writing.{room-short, room-enough}
 use Rattle.listing.specs.Listing.{listing, longest}
 use Rattle.listing.specs.Sizes.{listing-within}
@@ -13,7 +12,7 @@ use Rattle.listing.proofs.tunes.write_listing.Statement.{statement}
 use Rattle.listing.proofs.tunes.write_listing.Tie as tie
 
 returns : tie.Need-returns
-unfolding answer unless
+unfolding reply-with unless
 returns c = let e = room-short longest (now (c .before .before .before .args .text)) (omega arith) in (rw e, rw e)
 
 -- the answer is the length of the listing
@@ -27,7 +26,7 @@ cast-t8 c =
     omega (arith, size c, listing-within (now (s .args .book)))
 
 returns-2 : tie.Need-returns-2
-unfolding answer unless
+unfolding reply-with unless
 returns-2 c =
     let s = c .before .before .before .before .before .before .before in
     let e = room-enough longest (now (s .args .text)) (omega arith) in

@@ -1,8 +1,9 @@
--- `listing::tunes::write_tune` meets its contract: the first line, then the lines of the entry's own part of the book. Assumes nothing.
+-- `listing::tunes::write_tune` meets its contract: the first line, then the lines of the entry's own part of the book.
 use native.Mathlib.Omega.{arith}
 use denote.Ref.{now}
 use borrow.Author.Needs.{needs}
 use Rattle.book.specs.Layout.{tune-number, cards}
+use Rattle.book.specs.Entries.{entry-parts}
 use Rattle.book.specs.Accepted.{part-good}
 use Rattle.text.specs.Writing.{Wrote, wrote-then, room-then}
 use Rattle.listing.specs.Listing.{tune-line, tune-text}
@@ -13,14 +14,14 @@ use Rattle.listing.proofs.tunes.write_tune.Tie as tie
 write-tune-line-requires : tie.Need-write-tune-line-requires
 write-tune-line-requires c κs =
     let s = c .before .before .before .before in
-    let t = c .before .entry-at .ensures in
+    let t = entry-parts _ _ _ (c .before .entry-at .ensures) in
     rw (t .0, t .1) (omega (arith, tune-text-length (now (s .args .book)) (s .args .e)))
 
 -- the first line was written, with the entry's numbers
 line : (c : tie.After-write-tune-line) → let s = c .before .before .before .before .before in
     let bs = now (s .args .book) in
     Wrote (now (s .args .text)) (s .args .at) (tune-line (tune-number bs (s .args .e)) (cards bs (s .args .e))) (c .write-tune-line .last .0) (c .write-tune-line .result)
-line c = let t = c .before .before .entry-at .ensures in rw (t .0, t .1) at (c .write-tune-line .ensures)
+line c = let t = entry-parts _ _ _ (c .before .before .entry-at .ensures) in rw (t .0, t .1) at (c .write-tune-line .ensures)
 
 write-body-requires : tie.Need-write-body-requires
 unfolding tune-text
@@ -40,9 +41,9 @@ pub write-tune-spec : {M : Type 1} → statement M
 write-tune-spec =
     tie.close
     (tie.spec
-    (λ c κs. search needs)
+    (search needs)
     write-tune-line-requires
-    (λ c κs. search needs)
+    (search needs)
     write-body-requires
-    (λ c. search needs)
+    (search needs)
     returns)

@@ -1,4 +1,4 @@
--- `listing::tunes::write_tunes` meets its contract: the tunes before entry e were written. Assumes nothing.
+-- `listing::tunes::write_tunes` meets its contract: the tunes before entry e were written.
 use Prim.Native.Nat.{_-_, _<_}
 use native.Mathlib.Omega.{arith}
 use denote.Ref.{now}

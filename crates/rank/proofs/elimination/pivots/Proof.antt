@@ -1,5 +1,5 @@
--- `rank::elimination::pivots` meets its contract: as many rows as the trace is long. The outer loop: the rows chosen, and those that the trace from
--- here on chooses. The inner one: what is left to clear makes the rest. Assumes nothing.
+-- `rank::elimination::pivots` meets its contract: as many rows as the pivot log is long. The outer loop: the rows chosen, and those that the pivot log from
+-- here on chooses. The inner one: what is left to clear makes the rest.
 use mathlib.Core.Path.{_≡_, refl, sym, ap, _∙_}
 use mathlib.Core.List.{[]}
 use Prim.Native.Nat.{_+_, _*_, _-_, _≤_}
@@ -9,8 +9,8 @@ use borrow.Author.Needs.{needs}
 use Rattle.algebra.specs.Lists.{table}
 use Rattle.rank.specs.Definitions.{subtract}
 use Rattle.rank.specs.Arrays.{subtract-settles, set-settles, swap-settles, taken-set, taken-swap}
-use Rattle.rank.specs.Elimination.{Digits, DigitRows, zeros, swap-rows, Taken, clear-row, clear-on, step, trace-on, trace}
-use Rattle.rank.specs.Loops.{column-first, pivot-after, step-clears, clear-next, clear-end, trace-passed, trace-chosen, trace-end}
+use Rattle.rank.specs.Elimination.{Digits, DigitRows, zeros, swap-rows, Taken, clear-row, clear-on, clear-step, pivot-log-on, pivot-log}
+use Rattle.rank.specs.Loops.{column-nonzero, pivot-after, clear-step-on, clear-next, clear-end, pivot-log-passed, pivot-log-chosen, pivot-log-end}
 use Rattle.rank.proofs.elimination.pivots.Statement.{statement}
 use Rattle.rank.proofs.elimination.pivots.Tie as tie
 
@@ -21,13 +21,13 @@ abbrev μ-loop2 : tie.MeasureT-loop2
 μ-loop2 n₀ r j k f a p i₀ n i = 6 - i
 
 abbrev Inv-loop : tie.InvT-loop
-Inv-loop n₀ r₀ j₀ n r j = (j ≤ 6) × (r ≤ j) × (r + length (trace-on j r n) ≡ length (trace n₀)) × DigitRows n × Taken r n
+Inv-loop n₀ r₀ j₀ n r j = (j ≤ 6) × (r ≤ j) × (r + length (pivot-log-on j r n) ≡ length (pivot-log n₀)) × DigitRows n × Taken r n
 
 abbrev μ-loop : tie.MeasureT-loop
 μ-loop n₀ r₀ j₀ n r j = 6 - j
 
 loop-holds : tie.Need-loop-holds Inv-loop2 μ-loop2 Inv-loop μ-loop
-unfolding trace Taken
+unfolding pivot-log Taken
 loop-holds c = (omega arith, omega arith, omega arith, c .pre, λ i l. absurd (omega arith))
 
 loop2-holds : tie.Need-loop2-holds Inv-loop2 μ-loop2 Inv-loop μ-loop
@@ -40,7 +40,7 @@ loop2-holds c =
     let n = o .loop .n in
     let r = o .loop .r in
     let t = o .loop .inv .4 in
-    let e = g .pivot-place .ensures ∙ column-first r (o .loop .j) n (omega (arith, o .loop .inv)) t in
+    let e = g .pivot-place .ensures ∙ column-nonzero r (o .loop .j) n (omega (arith, o .loop .inv)) t in
     (refl, swap-settles r f n d, d f, refl, taken-swap r f n (omega (arith, e, pivot-after r (o .loop .j) n)) t, omega arith)
 
 multiple-requires : tie.Need-multiple-requires Inv-loop2 μ-loop2 Inv-loop μ-loop
@@ -91,12 +91,12 @@ loop-again c =
     let r = o .loop .r in
     let j = o .loop .j in
     let f = g .pivot-place .result in
-    let e = g .pivot-place .ensures ∙ column-first r j n (omega (arith, o .loop .inv)) (o .loop .inv .4) in
+    let e = g .pivot-place .ensures ∙ column-nonzero r j n (omega (arith, o .loop .inv)) (o .loop .inv .4) in
     let q =
-    sym (step-clears r f j n ∙ v .0 ∙ clear-end (s .loop2 .i) j (getD n f []) (s .loop2 .n) (c .loop2-test .left)) ∙ ap (λ f. step r f j n) e in
-    let t = trace-chosen j r n (g .before .before .before .before .before .before .before .loop-test .taken)
+    sym (clear-step-on r f j n ∙ v .0 ∙ clear-end (s .loop2 .i) j (getD n f []) (s .loop2 .n) (c .loop2-test .left)) ∙ ap (λ f. clear-step r f j n) e in
+    let t = pivot-log-chosen j r n (g .before .before .before .before .before .before .before .loop-test .taken)
     (omega (arith, e, s .before .before .before .before .if1 .taken)) in
-    (search needs, search needs, omega (arith, o .loop .inv, ap length t, ap (λ y. length (trace-on (j + 1) (r + 1) y)) q), v .1, v .4)
+    (search needs, search needs, omega (arith, o .loop .inv, ap length t, ap (λ y. length (pivot-log-on (j + 1) (r + 1) y)) q), v .1, v .4)
 
 loop-again-2 : tie.Need-loop-again-2 Inv-loop2 μ-loop2 Inv-loop μ-loop
 unfolding table
@@ -106,14 +106,14 @@ loop-again-2 c =
     let n = o .loop .n in
     let r = o .loop .r in
     let j = o .loop .j in
-    let e = g .pivot-place .ensures ∙ column-first r j n (omega (arith, o .loop .inv)) (o .loop .inv .4) in
-    let t = trace-passed j r n (g .before .before .before .before .before .before .before .loop-test .taken) (omega (arith, e, c .if1 .left)) in
+    let e = g .pivot-place .ensures ∙ column-nonzero r j n (omega (arith, o .loop .inv)) (o .loop .inv .4) in
+    let t = pivot-log-passed j r n (g .before .before .before .before .before .before .before .loop-test .taken) (omega (arith, e, c .if1 .left)) in
     (search needs, search needs, omega (arith, o .loop .inv, ap length t), o .loop .inv .3, o .loop .inv .4)
 
 returns : tie.Need-returns Inv-loop2 μ-loop2 Inv-loop μ-loop
 returns c =
     let s = c .before in
-    omega (arith, s .loop .inv, ap length (trace-end (s .loop .j) (s .loop .r) (s .loop .n) (c .loop-test .left)))
+    omega (arith, s .loop .inv, ap length (pivot-log-end (s .loop .j) (s .loop .r) (s .loop .n) (c .loop-test .left)))
 
 pub pivots-spec : {M : Type 1} → statement M
 pivots-spec =

@@ -1,4 +1,4 @@
--- `rank::row::digit_less` meets its contract: what is added to a digit is small. Assumes nothing.
+-- `rank::row::digit_less` meets its contract: what is added to a digit is small.
 use native.Mathlib.Omega.{arith}
 use borrow.Author.Needs.{needs}
 use Rattle.rank.specs.Arrays.{product-with-digit}

@@ -1,4 +1,4 @@
--- `rank::row::multiple` meets its contract: the product of two digits is small. Assumes nothing.
+-- `rank::row::multiple` meets its contract: the product of two digits is small.
 use mathlib.Core.Path.{refl}
 use native.Mathlib.Omega.{arith}
 use Rattle.rank.specs.Arrays.{product-of-digits}

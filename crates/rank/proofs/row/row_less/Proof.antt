@@ -1,4 +1,4 @@
--- `rank::row::row_less` meets its contract: the six digits are those of `subtract`. Assumes nothing.
+-- `rank::row::row_less` meets its contract: the six digits are those of `subtract`.
 use borrow.Author.Needs.{needs}
 use Rattle.rank.specs.Definitions.{subtract}
 use Rattle.rank.specs.Elimination.{Digits}

@@ -1,4 +1,4 @@
--- `rank::square::digit_square` meets its contract: six rows, each the lowest digits of what the divisions by 3 leave. Assumes nothing.
+-- `rank::square::digit_square` meets its contract: six rows, each the lowest digits of what the divisions by 3 leave.
 use borrow.Author.Needs.{needs}
 use Rattle.rank.specs.Elimination.{square, square-from}
 use Rattle.rank.proofs.square.digit_square.Statement.{statement}
@@ -24,15 +24,15 @@ pub digit-square-spec : {M : Type 1} → statement M
 digit-square-spec =
     tie.close
     (tie.spec
-    (λ c κs. search needs)
-    (λ c κs. search needs)
-    (λ c κs. search needs)
-    (λ c κs. search needs)
-    (λ c κs. search needs)
-    (λ c κs. search needs)
-    (λ c κs. search needs)
-    (λ c κs. search needs)
-    (λ c κs. search needs)
-    (λ c κs. search needs)
-    (λ c κs. search needs)
+    (search needs)
+    (search needs)
+    (search needs)
+    (search needs)
+    (search needs)
+    (search needs)
+    (search needs)
+    (search needs)
+    (search needs)
+    (search needs)
+    (search needs)
     returns)

@@ -1,4 +1,4 @@
--- `rank::square::low_digits` meets its contract: the six digits are those of `low-digits`. Assumes nothing.
+-- `rank::square::low_digits` meets its contract: the six digits are those of `low-digits`.
 use mathlib.Core.Path.{ap}
 use borrow.Author.Needs.{needs}
 use Rattle.rank.specs.Arrays.{six}
@@ -13,10 +13,10 @@ pub low-digits-spec : {M : Type 1} → statement M
 low-digits-spec =
     tie.close
     (tie.spec
-    (λ c. search needs)
-    (λ c. search needs)
-    (λ c. search needs)
-    (λ c. search needs)
-    (λ c. search needs)
-    (λ c. search needs)
+    (search needs)
+    (search needs)
+    (search needs)
+    (search needs)
+    (search needs)
+    (search needs)
     returns)

@@ -1,4 +1,4 @@
--- `rank::square::other_digits` meets its contract: the six symbols are those of `other-digits`. Assumes nothing.
+-- `rank::square::other_digits` meets its contract: the six symbols are those of `other-digits`.
 use mathlib.Core.Path.{ap}
 use borrow.Author.Needs.{needs}
 use Rattle.rank.specs.Arrays.{six}
@@ -13,10 +13,10 @@ pub other-digits-spec : {M : Type 1} → statement M
 other-digits-spec =
     tie.close
     (tie.spec
-    (λ c. search needs)
-    (λ c. search needs)
-    (λ c. search needs)
-    (λ c. search needs)
-    (λ c. search needs)
-    (λ c. search needs)
+    (search needs)
+    (search needs)
+    (search needs)
+    (search needs)
+    (search needs)
+    (search needs)
     returns)

@@ -11,7 +11,7 @@ returns : tie.Need-returns
 returns c =
     let r = c .before .before in
     let a = r .before .before .args in
-    omega (arith, ap length (r .rest .ensures), length-drop (a .at) (now (a .text)))
+    omega (arith, ap length (r .remaining .ensures), length-drop (a .at) (now (a .text)))
 
 pub write-some-spec : {M : Type 1} → statement M
 write-some-spec = tie.close (tie.spec (λ c κs. search needs) (λ c κs. search needs) (λ c κs. search needs) returns)

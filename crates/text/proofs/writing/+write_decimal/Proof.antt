@@ -1,5 +1,5 @@
 -- `text::writing::write_decimal` meets its contract: the digits of the tenth part, then the last. It calls itself with the tenth part, so its
--- measure is the number. Assumes nothing.
+-- measure is the number.
 use mathlib.Core.Path.{_∙_}
 use Prim.Native.Nat.{ℕ, _<_}
 use native.Mathlib.Omega.{arith}

@@ -1,4 +1,4 @@
--- `text::writing::write_book_refused` meets its contract: it is a line of a word and a number. Assumes nothing.
+-- `text::writing::write_book_refused` meets its contract: it is a line of a word and a number.
 use borrow.Author.Needs.{needs}
 use Rattle.text.specs.Text.{book-refused}
 use Rattle.text.proofs.writing.write_book_refused.Statement.{statement}

@@ -1,4 +1,4 @@
--- `text::writing::write_byte` meets its contract: one byte is stored. Assumes nothing.
+-- `text::writing::write_byte` meets its contract: one byte is stored.
 use borrow.Author.Needs.{needs}
 use native.Mathlib.Omega.{arith}
 use Rattle.text.specs.Writing.{wrote-byte}

@@ -1,4 +1,4 @@
--- `text::writing::write_spaced` meets its contract: a space, then the number. Assumes nothing.
+-- `text::writing::write_spaced` meets its contract: a space, then the number.
 use native.Mathlib.Omega.{arith}
 use borrow.Author.Needs.{needs}
 use Rattle.text.specs.Text.{spaced}

@@ -1,4 +1,4 @@
--- `text::writing::write_word` meets its contract: the first i bytes of the word were written. Assumes nothing.
+-- `text::writing::write_word` meets its contract: the first i bytes of the word were written.
 use Prim.Native.Nat.{_-_}
 use native.Mathlib.Omega.{arith}
 use lib.ListN.{length}

@@ -1,4 +1,4 @@
--- `text::writing::write_word_line` meets its contract: the parts of the line one after another. Assumes nothing.
+-- `text::writing::write_word_line` meets its contract: the parts of the line one after another.
 use native.Mathlib.Omega.{arith}
 use lib.ListN.{length-append}
 use borrow.Author.Needs.{needs}
@@ -36,5 +36,5 @@ write-word-line-spec =
     write-word-requires
     write-spaced-requires
     write-byte-requires
-    (λ c. search needs)
+    (search needs)
     returns)

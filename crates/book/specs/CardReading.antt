@@ -1,0 +1,110 @@
+-- Cards where they lie, and what is read of them, in the terms of the code.
+-- Main: twelve-bytes, card-part, card-range, card-lost, card-strike, found-none, found-near, found-strike, card-passes, read-bad, read-past,
+-- read-there, card-there, there-card, decoded-message.
+use mathlib.Core.Path.{_≡_, sym, _∙_, ap}
+use mathlib.Core.Bool.{Bool, true, false, not}
+use mathlib.Core.List.{List, [], _∷_}
+use mathlib.Core.Option.{none, some}
+use Prim.Native.Nat.{ℕ, suc, _+_, _*_, _-_, _≤_, _<_}
+use native.Mathlib.Omega.{arith}
+use lib.Dec.{ltb, eqb}
+use lib.ListN.{length, take, drop}
+use lib.Seq.{getD-take, getD-drop}
+use borrow.Author.Tests.{eqb-false, ltb-false, le-ltb, eq-eqb, ne-eqb}
+use Rattle.algebra.specs.Tests.{any-above}
+use Rattle.refusal.specs.Replies.{number, Reply, replied, refused-with, reply-with}
+use Rattle.refusal.specs.declared.Refusal.the-variants.{Length, Range, Undecodable, NoSuchCard}
+use Rattle.rank.specs.declared.Weight.{Weight}
+use Rattle.rank.specs.Definitions.{is-card, difference}
+use Rattle.rank.specs.Weight.{weight-of}
+use Rattle.coding.specs.Code.{word, is-message}
+use Rattle.coding.specs.Decode.{decode, decode-answers, answer-near}
+use Rattle.decoder.specs.Decoding.{undecodable, or-empty, decoded-word, damage}
+use Rattle.strike.specs.Strikes.{strike-of}
+use Rattle.candidate.specs.declared.found.Found.{Found}
+use Rattle.candidate.specs.Finding.{found-message, Consistent, message-some, message-none}
+use Rattle.book.specs.Layout.{big, body-good, symbols-from, card}
+use Rattle.book.specs.Reading.{Card-value, no-value, card-refusal, value-of-card, card-reading, cards-in, no-card, read-refusal, reading}
+use Rattle.book.specs.Accepted.{neither}
+
+-- TWELVE BYTES
+big-drop : (a : ℕ) (l : List ℕ) (i : ℕ) → big (drop a l) i ≡ big l (a + i)
+unfolding big
+big-drop a l i = let e : a + suc i ≡ suc (a + i) = omega arith in rw (getD-drop a l i 0, getD-drop a l (suc i) 0, e)
+
+big-take : (n : ℕ) (l : List ℕ) (i : ℕ) → suc i < n → big (take n l) i ≡ big l i
+unfolding big
+big-take n l i h = rw (getD-take n l i 0 (omega arith), getD-take n l (suc i) 0 h)
+
+pub twelve-bytes : (l : List ℕ) → symbols-from 6 l ≡ big l 0 ∷ big l 2 ∷ big l 4 ∷ big l 6 ∷ big l 8 ∷ big l 10 ∷ []
+unfolding symbols-from
+twelve-bytes l = simp big-drop
+
+pub card-part : (bs : List ℕ) (n : ℕ) → symbols-from 6 (take 12 (drop (12 * (n - 1)) bs)) ≡ card bs n
+unfolding card
+card-part bs n =
+    let l = drop (12 * (n - 1)) bs in
+    rw (twelve-bytes (take 12 l), twelve-bytes l)
+    (rw (big-take 12 l 0 (omega arith), big-take 12 l 2 (omega arith), big-take 12 l 4 (omega arith), big-take 12 l 6 (omega arith), big-take 12 l 8 (omega arith), big-take 12 l 10 (omega arith)))
+
+-- A CARD: out of range, beyond mending, or a strike
+pub card-range : (c : List ℕ) → any-above 728 c ≡ true → refused-with no-value (number Range) ≡ card-reading (card-refusal c) c
+unfolding card-refusal card-reading reply-with
+card-range c e = rw e
+
+pub card-lost : (c : List ℕ) → any-above 728 c ≡ false → decode 2 c ≡ none → refused-with no-value (number Undecodable) ≡ card-reading (card-refusal c) c
+unfolding card-refusal card-reading undecodable reply-with
+card-lost c e d = rw (e, d)
+
+-- what is said of a strike with its damage
+abbrev pub struck : (message : List ℕ) → (damage : Weight) → Reply Card-value
+struck m d = replied (record { strike = strike-of m; damage = d })
+
+pub card-strike : (c m : List ℕ) → any-above 728 c ≡ false → decode 2 c ≡ some m → struck m (weight-of (difference (word 2 m) c)) ≡ card-reading (card-refusal c) c
+unfolding card-refusal card-reading value-of-card undecodable or-empty decoded-word damage reply-with
+card-strike c m e d = rw (e, d)
+
+-- what decoding found
+module _ (c : List ℕ) (r : Found) (inside : any-above 728 c ≡ false) (a : found-message 2 r ≡ decode 2 c) where
+  pub found-none : r .found ≡ false → refused-with no-value (number Undecodable) ≡ card-reading (card-refusal c) c
+  found-none f = card-lost c inside (sym a ∙ message-none 2 r f)
+
+  pub found-near : r .found ≡ true → decode 2 c ≡ some (take 4 (r .message))
+  found-near f = sym a ∙ message-some 2 r f
+
+  pub found-strike : Consistent 2 c r → r .found ≡ true → struck (take 4 (r .message)) (r .weight) ≡ card-reading (card-refusal c) c
+  found-strike w f =
+      let e = w .weight-is f ∙ ap (λ (v : List ℕ). weight-of (difference v c)) (w .word-is f) in
+      rw e (card-strike c (take 4 (r .message)) inside (found-near f))
+
+pub card-passes : (c : List ℕ) → length c ≡ 6 → any-above 728 c ≡ false → is-card c ≡ true
+unfolding is-card
+card-passes c l e = rw (eq-eqb (length c) 6 l, e)
+
+-- READ
+pub read-bad : (bs : List ℕ) (n : ℕ) (t : Bool) → t ≡ body-good bs → not t ≡ true → refused-with no-value (number Length) ≡ reading bs n
+unfolding reading read-refusal card-reading reply-with
+read-bad bs n t e h = rw (← e, h)
+
+pub read-past : (bs : List ℕ) (n : ℕ) → body-good bs ≡ true → no-card bs n ≡ true → refused-with no-value (number NoSuchCard) ≡ reading bs n
+unfolding reading read-refusal card-reading reply-with
+read-past bs n e p = rw (e, p)
+
+pub read-there : (bs : List ℕ) (n : ℕ) → body-good bs ≡ true → no-card bs n ≡ false → card-reading (card-refusal (card bs n)) (card bs n) ≡ reading bs n
+unfolding reading read-refusal
+read-there bs n e p = rw (e, p)
+
+pub card-there : (bs : List ℕ) (n : ℕ) → no-card bs n ≡ false → (1 ≤ n) × (n ≤ cards-in bs)
+unfolding no-card
+card-there bs n e =
+    let t = neither (eqb n 0) (ltb (cards-in bs) n) e in
+    let p = eqb-false n 0 (t .0) in
+    (omega arith, ltb-false (cards-in bs) n (t .1))
+
+pub there-card : (bs : List ℕ) (n : ℕ) → 1 ≤ n → n ≤ cards-in bs → no-card bs n ≡ false
+unfolding no-card
+there-card bs n a b = rw (ne-eqb n 0 (λ e. omega arith), le-ltb (cards-in bs) n b)
+
+-- a message that was found
+pub decoded-message : (c m : List ℕ) → decode 2 c ≡ some m → is-message 2 m ≡ true
+decoded-message c m e = answer-near (decode-answers 2 c) e .message

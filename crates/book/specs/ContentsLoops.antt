@@ -1,0 +1,78 @@
+-- The tests and the search of the contents from entry e on, in the terms of a loop that counts entries.
+-- Main: numbers-next, bodies-next, entry-next, and the laws for the start and the end beside them.
+use mathlib.Core.Path.{_≡_}
+use mathlib.Core.Bool.{Bool, true, _&&_, not, cond}
+use mathlib.Core.List.{List}
+use mathlib.Core.Option.{Option, none, some}
+use Prim.Native.Nat.{ℕ, suc, _+_, _*_, _-_, _≤_, _<_}
+use native.Mathlib.Omega.{arith}
+use native.Mathlib.Nat.{sub-zero}
+use native.Mathlib.Numerals.{add-one}
+use lib.Dec.{leb, eqb}
+use lib.ListN.{length}
+use Rattle.book.specs.declared.pull.Place.{Place}
+use Rattle.book.specs.declared.pull.Place.the-variants.{At, Nowhere}
+use Rattle.book.specs.Layout.{tunes, contents-end, tune-number, offset, cards}
+use Rattle.book.specs.Open.{numbers-good, bodies-good, numbers-bad, bodies-bad}
+use Rattle.book.specs.Pull.{entry-from, entry-of}
+
+-- what is left of n entries: one more than after the next, and none at the end
+left-next : (n e : ℕ) → e < n → n - e ≡ suc (n - suc e)
+left-next n e h = omega arith
+
+left-end : (n e : ℕ) → n ≤ e → n - e ≡ 0
+left-end n e h = omega arith
+
+-- TUNE NUMBERS
+unfoldable pub numbers-on : List ℕ → (e least : ℕ) → Bool
+numbers-on bs e l = numbers-good (tunes bs - e) e l bs
+
+pub numbers-start : (bs : List ℕ) → numbers-bad bs ≡ not (numbers-on bs 0 1)
+unfolding numbers-bad numbers-on
+numbers-start bs = rw sub-zero
+
+pub numbers-next : (bs : List ℕ) (e l : ℕ) → e < tunes bs
+    → numbers-on bs e l ≡ (leb l (tune-number bs e) && leb (tune-number bs e) 9999) && numbers-on bs (e + 1) (tune-number bs e + 1)
+unfolding numbers-on numbers-good
+numbers-next bs e l h = rw (left-next (tunes bs) e h, add-one e, add-one (tune-number bs e))
+
+pub numbers-end : (bs : List ℕ) (e l : ℕ) → tunes bs ≤ e → numbers-on bs e l ≡ true
+unfolding numbers-on numbers-good
+numbers-end bs e l h = rw (left-end (tunes bs) e h)
+
+-- BODIES
+unfoldable pub bodies-on : List ℕ → (e end : ℕ) → Bool
+bodies-on bs e x = bodies-good (tunes bs - e) e x bs
+
+pub bodies-start : (bs : List ℕ) → bodies-bad bs ≡ not (bodies-on bs 0 (contents-end (tunes bs)))
+unfolding bodies-bad bodies-on
+bodies-start bs = rw sub-zero
+
+pub bodies-next : (bs : List ℕ) (e x : ℕ) → e < tunes bs
+    → bodies-on bs e x ≡ (leb 1 (cards bs e) && eqb (offset bs e) x) && bodies-on bs (e + 1) (x + 12 * cards bs e)
+unfolding bodies-on bodies-good
+bodies-next bs e x h = rw (left-next (tunes bs) e h, add-one e)
+
+pub bodies-end : (bs : List ℕ) (e x : ℕ) → tunes bs ≤ e → bodies-on bs e x ≡ eqb x (length bs)
+unfolding bodies-on bodies-good
+bodies-end bs e x h = rw (left-end (tunes bs) e h)
+
+-- THE SEARCH. What it found, as the definitions say it
+abbrev pub place-of : Place → Option ℕ
+place-of (At e) = some e
+place-of Nowhere = none
+
+unfoldable pub entry-on : List ℕ → (e tune : ℕ) → Option ℕ
+entry-on bs e t = entry-from (tunes bs - e) e t bs
+
+pub entry-start : (bs : List ℕ) (t : ℕ) → entry-of bs t ≡ entry-on bs 0 t
+unfolding entry-on entry-of
+entry-start bs t = rw sub-zero
+
+pub entry-next : (bs : List ℕ) (e t : ℕ) → e < tunes bs → entry-on bs e t ≡ cond (eqb (tune-number bs e) t) (some e) (entry-on bs (e + 1) t)
+unfolding entry-on entry-from
+entry-next bs e t h = rw (left-next (tunes bs) e h, add-one e)
+
+pub entry-end : (bs : List ℕ) (e t : ℕ) → tunes bs ≤ e → entry-on bs e t ≡ none
+unfolding entry-on entry-from
+entry-end bs e t h = rw (left-end (tunes bs) e h)

@@ -1,0 +1,10 @@
+-- `decoder::window::solved` meets its contract: three products and two sums.
+use borrow.Author.Needs.{needs}
+use Rattle.decoder.proofs.window.solved.Statement.{statement}
+use Rattle.decoder.proofs.window.solved.Tie as tie
+
+returns : tie.Need-returns
+returns c = cc
+
+pub solved-spec : {M : Type 1} → statement M
+solved-spec = tie.close (tie.spec (λ c κs. search needs) (λ c κs. search needs) (λ c κs. search needs) (λ c κs. search needs) (λ c κs. search needs) (λ c κs. search needs) returns)

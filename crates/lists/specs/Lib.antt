@@ -1,0 +1,3 @@
+-- The loops over lent lists: one turn of each, and their ends.
+pub mod Scanning
+pub mod Filling
