@@ -1,5 +1,5 @@
-/* Lucetcoral's C interface: cards, tune books and their listing, in numbers and lists only. docs/SPECIFICATION.md says what each operation does;
-   the sections cited below are its sections.
+/* Lucetcoral's C interface: cards, tune books, their listing and their writing, in numbers and lists only. docs/SPECIFICATION.md says what each
+   operation does; the sections cited below are its sections.
 
    ANSWERS. Each function returns LUCETCORAL_DONE, 0, or the number of a refusal. If it is done, what it answers is in the lists and numbers that
    it was lent to fill. A refusal changes nothing that is lent. Tests run in the order in which the numbers stand at each function, and the first
@@ -8,7 +8,7 @@
 
    LISTS AND POINTERS. A list is a pointer and a count of entries, not of bytes. The pointer must be valid and aligned for that many entries.
    - With a count of 0 it may be NULL, or any other pointer: nothing is read or written through it. The list is then empty. Most functions refuse
-     an empty list; an empty body has 0 ticks and no damaged card.
+     an empty list; an empty body has 0 ticks and no damaged card, and a book may have no tunes.
    - A pointer to a single number must be valid and aligned, and never NULL, even in a call that is refused.
    - What a call is lent to fill must not overlap anything else that it is lent, and need not be initialised.
    - While a call runs, nothing else may write what it was lent, or read what it was lent to fill.
@@ -35,7 +35,7 @@ extern "C" {
 /* The version of this interface. As long as MAJOR is 0, MINOR is raised by every change of what a call takes, answers or refuses and of every
    name or number below, PATCH by all other changes. The archive holds no version of its own. */
 #define LUCETCORAL_VERSION_MAJOR 0
-#define LUCETCORAL_VERSION_MINOR 1
+#define LUCETCORAL_VERSION_MINOR 2
 #define LUCETCORAL_VERSION_PATCH 0
 
 /* What a function returns (section 7). */
@@ -49,7 +49,8 @@ enum lucetcoral_refusal {
     LUCETCORAL_TUNE_NUMBER = 6,  /* a tune number is not 1 to 9,999, or not above the one before it */
     LUCETCORAL_LAYOUT = 7,       /* a tune has no cards, or the bodies do not adjoin from the contents to the end of the book */
     LUCETCORAL_NO_SUCH_TUNE = 8, /* the book has no tune of that number, or at that place */
-    LUCETCORAL_NO_SUCH_CARD = 9  /* the card number is 0, or past the last */
+    LUCETCORAL_NO_SUCH_CARD = 9, /* the card number is 0, or past the last */
+    LUCETCORAL_STRIKE_FIELD = 10 /* a bell or a force is above 26, or a delay above 728 */
 };
 
 /* The code (sections 1 to 4). */
@@ -76,7 +77,7 @@ enum lucetcoral_refusal {
 #define LUCETCORAL_DELAY_MAX 728
 #define LUCETCORAL_TICK_MILLISECONDS 20
 
-/* No listing has more bytes than this (section 9). */
+/* No listing has more bytes than this (section 9.1). */
 #define LUCETCORAL_LISTING_MAX 131072
 
 /* Encode (8.1; Press): fills the word, 6 symbols, of a message of 2k values. 1, 2, 3. */
@@ -117,6 +118,16 @@ uint32_t lucetcoral_damaged_card(const uint8_t *body, size_t body_len, uint32_t 
    `text`. The rest of `text` stays as it was. `written` is the length of the listing; no 0 is written at its end. 2 if text_len is below
    LUCETCORAL_LISTING_MAX. */
 uint32_t lucetcoral_list(const uint8_t *book, size_t book_len, uint8_t *text, size_t text_len, size_t *written);
+
+/* Write (8.13): fills a book, contents and cards, with tunes. `numbers` has the tune numbers and `counts` the counts of cards, in the order of the
+   contents. `strikes` has three numbers for each card, bell, force and delay: for the cards of the first tune, then for those of the second, and so
+   on. `book` is as long as Book size says. 10 for any number of `strikes`, taken as bell, force and delay by turns; 2 if there are not as many
+   counts as tune numbers; 5; 6; 7 for a count of 0; 2 if `strikes` or `book` is not as long as the counts ask. */
+uint32_t lucetcoral_write_book(const uint16_t *numbers, size_t numbers_len, const uint16_t *counts, size_t counts_len, const uint16_t *strikes,
+                               size_t strikes_len, uint8_t *book, size_t book_len);
+
+/* Book size (8.14): the length of a book of tunes with these counts of cards, in bytes. 5. */
+uint32_t lucetcoral_book_size(const uint16_t *counts, size_t counts_len, size_t *size);
 
 #ifdef __cplusplus
 }

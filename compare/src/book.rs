@@ -14,7 +14,7 @@ pub const LONGEST_BODY: usize = 65_532;
 /// longer.
 pub const LISTING_MAX: usize = 131_072;
 
-const CARD_BYTES: usize = 12;
+pub(crate) const CARD_BYTES: usize = 12;
 
 #[derive(Clone, Copy, PartialEq, Eq, Debug)]
 pub struct Strike {
@@ -135,7 +135,7 @@ fn contents(book: &[u8]) -> Result<Vec<Entry>, Refusal> {
     let count = big_endian(count);
     let entries = rest.get(..8 * count).ok_or(Refusal::BookSize)?;
     let entries: Vec<Entry> = entries.chunks_exact(8).map(entry).collect();
-    check_tune_numbers(&entries)?;
+    check_tune_numbers(entries.iter().map(|entry| entry.tune))?;
     check_layout(&entries, book.len())?;
     Ok(entries)
 }
@@ -148,9 +148,11 @@ fn entry(bytes: &[u8]) -> Entry {
     }
 }
 
-fn check_tune_numbers(entries: &[Entry]) -> Result<(), Refusal> {
-    let in_range = entries.iter().all(|e| (1..=9_999).contains(&e.tune));
-    let rising = entries.windows(2).all(|pair| pair[0].tune < pair[1].tune);
+/// Of the contents of a book, and of the numbers that are to be its contents.
+pub(crate) fn check_tune_numbers(numbers: impl Iterator<Item = u32>) -> Result<(), Refusal> {
+    let numbers: Vec<u32> = numbers.collect();
+    let in_range = numbers.iter().all(|number| (1..=9_999).contains(number));
+    let rising = numbers.windows(2).all(|pair| pair[0] < pair[1]);
     match in_range && rising {
         true => Ok(()),
         false => Err(Refusal::TuneNumbers),

@@ -2,7 +2,7 @@
 //! reference, and by another implementation.
 //!
 //! Both can be printed as one line of decimal numbers. A call's line is the
-//! number of the operation (1 to 10, in the order of `Call`), then its number
+//! number of the operation (1 to 12, in the order of `Call`), then its number
 //! if it has one (k, a tune's or a card's number, a place of the contents),
 //! then its lists, each as its length and its values. An outcome's line is the
 //! status (0 or the refusal), then the numbers given back if the status is 0,
@@ -12,10 +12,10 @@
 use crate::lent::{reading, Lent, UNTOUCHED};
 use crate::library::Library;
 use crate::refusal::Refusal;
-use crate::{book, code};
+use crate::{book, code, writer};
 
-/// Lists to be filled (`word`, `values`, and the `message` of `Decode`) are
-/// given with what they hold before.
+/// Lists to be filled (`word`, `values`, the `message` of `Decode`, and the
+/// `book` of `WriteBook`) are given with what they hold before.
 #[derive(Clone, Debug)]
 pub enum Call {
     Encode {
@@ -58,6 +58,15 @@ pub enum Call {
         place: u32,
         book: Vec<u8>,
     },
+    WriteBook {
+        numbers: Vec<u16>,
+        counts: Vec<u16>,
+        strikes: Vec<u16>,
+        book: Vec<u8>,
+    },
+    BookSize {
+        counts: Vec<u16>,
+    },
 }
 
 #[derive(Clone, PartialEq, Eq, Debug)]
@@ -65,7 +74,7 @@ pub struct Outcome {
     pub status: u32,
     /// The numbers given back; none on a refusal.
     pub numbers: Vec<u32>,
-    /// The final values of the lists to be filled.
+    /// The final values of the lists to be filled, bytes among them.
     pub lists: Vec<Vec<u16>>,
 }
 
@@ -105,6 +114,16 @@ impl Call {
             Call::TotalDelay { body } => (8, None, vec![wide(body)]),
             Call::DamagedCard { body } => (9, None, vec![wide(body)]),
             Call::TuneAt { place, book } => (10, Some(*place), vec![wide(book)]),
+            Call::WriteBook {
+                numbers,
+                counts,
+                strikes,
+                book,
+            } => {
+                let lists = vec![wide(numbers), wide(counts), wide(strikes), wide(book)];
+                (11, None, lists)
+            }
+            Call::BookSize { counts } => (12, None, vec![wide(counts)]),
         }
     }
 
@@ -165,6 +184,16 @@ impl Call {
             Call::TotalDelay { body } => (vec![book::total_delay(body)?], vec![]),
             Call::DamagedCard { body } => return damaged_answers(body),
             Call::TuneAt { place, book } => (book::tune_at(book, *place)?.to_vec(), vec![]),
+            Call::WriteBook {
+                numbers,
+                counts,
+                strikes,
+                book,
+            } => {
+                let book = writer::write_book(numbers, counts, strikes, book.len())?;
+                (vec![], vec![wide(&book)])
+            }
+            Call::BookSize { counts } => (vec![writer::book_size(counts)? as u32], vec![]),
         };
         Ok(vec![answer])
     }
@@ -174,6 +203,7 @@ impl Call {
             Call::Encode { word, .. } => vec![word.clone()],
             Call::Syndrome { values, .. } => vec![values.clone()],
             Call::Decode { word, message, .. } => vec![word.clone(), message.clone()],
+            Call::WriteBook { book, .. } => vec![wide(book)],
             _ => vec![],
         }
     }
@@ -249,6 +279,26 @@ impl Call {
                 });
                 outcome(status, &[number, cards], vec![])
             }
+            Call::WriteBook {
+                numbers,
+                counts,
+                strikes,
+                book,
+            } => {
+                let mut book = Lent::new(book);
+                let status = reading(self, numbers, |n| {
+                    reading(self, counts, |c| {
+                        reading(self, strikes, |s| L::write_book(n, c, s, book.list()))
+                    })
+                });
+                outcome(status, &[], vec![wide(&book.values(self))])
+            }
+            Call::BookSize { counts } => {
+                let mut size = UNTOUCHED as usize;
+                let status = reading(self, counts, |c| L::book_size(c, &mut size));
+                let size = u32::try_from(size).unwrap_or(u32::MAX);
+                outcome(status, &[size], vec![])
+            }
         }
     }
 
@@ -279,7 +329,7 @@ impl Outcome {
     }
 }
 
-fn wide<T: Copy + Into<u32>>(list: &[T]) -> Vec<u32> {
+fn wide<T: Copy + Into<U>, U>(list: &[T]) -> Vec<U> {
     list.iter().map(|value| (*value).into()).collect()
 }
 

@@ -67,6 +67,18 @@ mod raw {
             text_len: usize,
             written: *mut usize,
         ) -> u32;
+        pub fn lucetcoral_write_book(
+            numbers: *const u16,
+            numbers_len: usize,
+            counts: *const u16,
+            counts_len: usize,
+            strikes: *const u16,
+            strikes_len: usize,
+            book: *mut u8,
+            book_len: usize,
+        ) -> u32;
+        pub fn lucetcoral_book_size(counts: *const u16, counts_len: usize, size: *mut usize)
+            -> u32;
     }
 }
 
@@ -143,5 +155,24 @@ impl Library for Proved {
         let (book, book_len) = (book.as_ptr(), book.len());
         let (text, text_len) = (text.as_mut_ptr(), text.len());
         unsafe { raw::lucetcoral_list(book, book_len, text, text_len, written) }
+    }
+
+    fn write_book(numbers: &[u16], counts: &[u16], strikes: &[u16], book: &mut [u8]) -> u32 {
+        unsafe {
+            raw::lucetcoral_write_book(
+                numbers.as_ptr(),
+                numbers.len(),
+                counts.as_ptr(),
+                counts.len(),
+                strikes.as_ptr(),
+                strikes.len(),
+                book.as_mut_ptr(),
+                book.len(),
+            )
+        }
+    }
+
+    fn book_size(counts: &[u16], size: &mut usize) -> u32 {
+        unsafe { raw::lucetcoral_book_size(counts.as_ptr(), counts.len(), size) }
     }
 }

@@ -74,7 +74,7 @@ fn parameter(k: u32) -> Result<usize, Refusal> {
     }
 }
 
-fn length(actual: usize, wanted: usize) -> Result<(), Refusal> {
+pub(crate) fn length(actual: usize, wanted: usize) -> Result<(), Refusal> {
     match actual == wanted {
         true => Ok(()),
         false => Err(Refusal::Length),

@@ -40,6 +40,11 @@ static DUAL_LOGS: [[u16; 6]; 6] = dual_logs();
 static POINT_LOGS: [[u16; 6]; 6] = point_logs();
 /// The small number of x + x^27, by a logarithm of x.
 static TRACES: [u8; 2 * LOG_ZERO as usize + 1] = traces();
+/// The words for k = 2 of a bell, of a force, and of a delay, with zeros for
+/// the rest of the strike: a strike's word is the sum of its three.
+static BELL_WORDS: [Card; 27] = words(0, 0);
+static FORCE_WORDS: [Card; 27] = words(1, 0);
+static DELAY_WORDS: [Card; 729] = delay_words();
 /// A logarithm times entry i is that of the power 3^i.
 const CUBINGS: [usize; 6] = [1, 3, 9, 27, 81, 243];
 
@@ -215,6 +220,33 @@ const fn traces() -> [u8; 2 * LOG_ZERO as usize + 1] {
         let trace = add(powers[exponent], powers[27 * exponent % ORDER]);
         table[exponent] = pairs[place(trace)][0];
         exponent += 1;
+    }
+    table
+}
+
+/// The words of the polynomials c·v·y^(3^i), by the small numbers v, for the
+/// logarithm of c.
+const fn words(i: usize, log: usize) -> [Card; 27] {
+    let (powers, logs, small) = (powers(), logs(), small_numbers());
+    let mut table = [[0; 6]; 27];
+    let mut entry = 6;
+    while entry < 27 * 6 {
+        let (value, s) = (entry / 6, entry % 6);
+        let product = logs[place(small[value])] as usize + log + s * CUBINGS[i];
+        table[value][s] = powers[product % ORDER];
+        entry += 1;
+    }
+    table
+}
+
+const fn delay_words() -> [Card; 729] {
+    let (high, low) = (words(1, 1), words(2, 1));
+    let mut table = [[0; 6]; 729];
+    let mut entry = 0;
+    while entry < 729 * 6 {
+        let (delay, s) = (entry / 6, entry % 6);
+        table[delay][s] = add(high[delay / 27][s], low[delay % 27][s]);
+        entry += 1;
     }
     table
 }
@@ -505,14 +537,7 @@ fn contents(book: &[u8]) -> Result<&[[u8; 8]], Refusal> {
     let count = big_endian(&book[..2]);
     let bytes = book.get(2..2 + 8 * count).ok_or(Refusal::BookSize)?;
     let (entries, _) = bytes.as_chunks();
-    let mut last = 0;
-    for entry in entries {
-        let number = big_endian(&entry[..2]);
-        if number <= last || number > 9_999 {
-            return Err(Refusal::TuneNumbers);
-        }
-        last = number;
-    }
+    check_tune_numbers(entries.iter().map(|entry| big_endian(&entry[..2])))?;
     let mut end = 2 + 8 * count;
     for entry in entries {
         let (offset, cards) = (big_endian(&entry[2..6]), big_endian(&entry[6..]));
@@ -525,6 +550,17 @@ fn contents(book: &[u8]) -> Result<&[[u8; 8]], Refusal> {
         true => Ok(entries),
         false => Err(Refusal::Layout),
     }
+}
+
+fn check_tune_numbers(numbers: impl Iterator<Item = usize>) -> Result<(), Refusal> {
+    let mut last = 0;
+    for number in numbers {
+        if number <= last || number > 9_999 {
+            return Err(Refusal::TuneNumbers);
+        }
+        last = number;
+    }
+    Ok(())
 }
 
 fn cards(body: &[u8]) -> Result<&[[u8; 12]], Refusal> {
@@ -643,6 +679,78 @@ fn list_card(card: &[u8; 12], text: &mut Text) -> usize {
     };
     text.push(b"\n");
     delay as usize
+}
+
+fn book_size(counts: &[u16]) -> Result<usize, Refusal> {
+    // The contents of more tunes would be too long. So few counts have a sum
+    // below 2^32.
+    if counts.len() > 8_191 {
+        return Err(Refusal::BookSize);
+    }
+    let cards: u32 = counts.iter().map(|count| u32::from(*count)).sum();
+    match 2 + 8 * counts.len() + 12 * cards as usize {
+        size if size > 65_536 => Err(Refusal::BookSize),
+        size => Ok(size),
+    }
+}
+
+/// Each number, taken as bell, force and delay by turns, is in its range.
+fn check_fields(strikes: &[u16]) -> Result<(), Refusal> {
+    let (strikes, rest) = strikes.as_chunks();
+    let is_wrong = |[bell, force, delay]: &[u16; 3]| *bell > 26 || *force > 26 || *delay > 728;
+    match strikes.iter().any(is_wrong) || rest.iter().any(|field| *field > 26) {
+        true => Err(Refusal::StrikeField),
+        false => Ok(()),
+    }
+}
+
+/// Fills the book with contents and cards, if nothing is refused.
+fn write_book(
+    numbers: &[u16],
+    counts: &[u16],
+    strikes: &[u16],
+    book: &mut [u8],
+) -> Result<(), Refusal> {
+    check_fields(strikes)?;
+    length(counts.len(), numbers.len())?;
+    let size = book_size(counts)?;
+    check_tune_numbers(numbers.iter().map(|number| usize::from(*number)))?;
+    if counts.contains(&0) {
+        return Err(Refusal::Layout);
+    }
+    let contents = 2 + 8 * counts.len();
+    // Three numbers for the twelve bytes of a card.
+    length(strikes.len(), (size - contents) / 4)?;
+    length(book.len(), size)?;
+    let (contents, bodies) = book.split_at_mut(contents);
+    write_contents(numbers, counts, contents);
+    let (strikes, _) = strikes.as_chunks();
+    let (cards, _) = bodies.as_chunks_mut();
+    for (card, strike) in cards.iter_mut().zip(strikes) {
+        *card = card_of(strike);
+    }
+    Ok(())
+}
+
+fn write_contents(numbers: &[u16], counts: &[u16], contents: &mut [u8]) {
+    let mut offset = contents.len() as u64;
+    contents[..2].copy_from_slice(&(counts.len() as u16).to_be_bytes());
+    let (entries, _) = contents[2..].as_chunks_mut();
+    for ((entry, number), count) in entries.iter_mut().zip(numbers).zip(counts) {
+        let [number, count] = [*number, *count].map(u64::from);
+        *entry = (number << 48 | offset << 16 | count).to_be_bytes();
+        offset += 12 * count;
+    }
+}
+
+/// The bytes of a strike's card.
+fn card_of(strike: &[u16; 3]) -> [u8; 12] {
+    let [bell, force, delay] = strike.map(usize::from);
+    let (bell, force) = (&BELL_WORDS[bell], &FORCE_WORDS[force]);
+    let delay = &DELAY_WORDS[delay];
+    let word = std::array::from_fn(|s| add(add(bell[s], force[s]), delay[s]));
+    let symbols = symbols_of(&word);
+    std::array::from_fn(|place| symbols[place / 2].to_be_bytes()[place % 2])
 }
 
 /// 0, or the number of the refusal.
@@ -777,6 +885,19 @@ impl Library for Fast {
             let mut text = Text { room, len: 0 };
             list(book, &mut text);
             *written = text.len;
+            Ok(())
+        })
+    }
+
+    #[inline(never)]
+    fn write_book(numbers: &[u16], counts: &[u16], strikes: &[u16], book: &mut [u8]) -> u32 {
+        status(|| write_book(numbers, counts, strikes, book))
+    }
+
+    #[inline(never)]
+    fn book_size(counts: &[u16], size: &mut usize) -> u32 {
+        status(|| {
+            *size = book_size(counts)?;
             Ok(())
         })
     }

@@ -16,4 +16,6 @@ pub mod random;
 pub mod rank;
 pub mod refusal;
 pub mod samples;
+pub mod text;
 pub mod vectors;
+pub mod writer;

@@ -43,4 +43,11 @@ pub trait Library {
     /// The listing of a book, or the line that says its refusal, at the start
     /// of the text; the rest of the text stays as it was.
     fn list(book: &[u8], text: &mut [u8], written: &mut usize) -> u32;
+
+    /// The book of some tunes: their numbers, their counts of cards, and a
+    /// bell, a force and a delay for each card.
+    fn write_book(numbers: &[u16], counts: &[u16], strikes: &[u16], book: &mut [u8]) -> u32;
+
+    /// How long a book with these counts of cards is.
+    fn book_size(counts: &[u16], size: &mut usize) -> u32;
 }

@@ -20,6 +20,8 @@ pub enum Refusal {
     NoSuchTune = 8,
     /// No card has the number.
     NoSuchCard = 9,
+    /// A bell, force or delay is out of range.
+    StrikeField = 10,
 }
 
 impl Refusal {

@@ -1,11 +1,14 @@
 //! Inputs for the tests and the programs: messages, errors of a given rank,
-//! cards with damage, and books.
+//! cards with damage, books, and tunes as lists and as text.
 
 use crate::code;
 use crate::digits::Digits;
 use crate::field::{of_small, SMALL_NUMBERS, SYMBOLS};
 use crate::random::Random;
 use crate::rank::{rank, square, symbols, Square};
+use crate::writer::{Tunes, LARGEST_FIELDS};
+
+pub use crate::writer::{body, book};
 
 /// A message and a card made of its word and an error.
 pub struct Sent {
@@ -87,22 +90,88 @@ pub fn junk(random: &mut Random, count: usize) -> Vec<u16> {
     random.numbers(count, u16::MAX)
 }
 
-/// The bytes of some cards, one after the other.
-pub fn body(cards: &[code::Card]) -> Vec<u8> {
-    let symbols = cards.iter().flatten();
-    symbols.flat_map(|symbol| symbol.to_be_bytes()).collect()
+/// So many strikes, in their ranges.
+pub fn strikes(random: &mut Random, count: usize) -> Vec<u16> {
+    let largest = LARGEST_FIELDS.iter().cycle().take(3 * count);
+    largest
+        .map(|most| random.below(u64::from(*most) + 1) as u16)
+        .collect()
 }
 
-/// A well-formed book of tunes with these numbers and bodies.
-pub fn book(tunes: &[(u16, Vec<u8>)]) -> Vec<u8> {
-    let mut book = (tunes.len() as u16).to_be_bytes().to_vec();
-    let mut offset = 2 + 8 * tunes.len();
-    for (number, body) in tunes {
-        book.extend(number.to_be_bytes());
-        book.extend((offset as u32).to_be_bytes());
-        book.extend((body.len() as u16 / 12).to_be_bytes());
-        offset += body.len();
+/// So many tune numbers, rising from 1 at least to 9,999 at most.
+pub fn tune_numbers(random: &mut Random, count: usize) -> Vec<u16> {
+    let mut last = 0;
+    let number = |_| {
+        last += 1 + random.below(9_999 / count as u64) as u16;
+        last
+    };
+    (0..count).map(number).collect()
+}
+
+/// Tunes with so many cards each.
+pub fn tunes(random: &mut Random, counts: &[u16]) -> Tunes {
+    let cards = counts.iter().map(|count| usize::from(*count)).sum();
+    Tunes {
+        numbers: tune_numbers(random, counts.len()),
+        counts: counts.to_vec(),
+        strikes: strikes(random, cards),
     }
-    book.extend(tunes.iter().flat_map(|(_, body)| body));
-    book
+}
+
+/// The listing of a book of these tunes without damage.
+pub fn listing(tunes: &Tunes) -> String {
+    let mut text = String::new();
+    let mut strikes = tunes.strikes.chunks_exact(3);
+    for (number, count) in tunes.numbers.iter().zip(&tunes.counts) {
+        text += &format!("tune {number} {count}\n");
+        let mut ticks = 0;
+        for (card, strike) in (1..=*count).zip(&mut strikes) {
+            text += &format!("{card} {} {} {} 0\n", strike[0], strike[1], strike[2]);
+            ticks += u32::from(strike[2]);
+        }
+        text += &format!("ticks {ticks}\n");
+    }
+    text
+}
+
+/// A text that says the tunes, with blanks, empty lines and comments.
+pub fn text(random: &mut Random, tunes: &Tunes) -> Vec<u8> {
+    let mut text = String::new();
+    let mut strikes = tunes.strikes.chunks(3);
+    for (number, count) in tunes.numbers.iter().zip(&tunes.counts) {
+        text += &lines(random, "tune", &[*number]);
+        for strike in strikes.by_ref().take((*count).into()) {
+            text += &lines(random, "", strike);
+        }
+    }
+    if random.chance(3) {
+        // The last line needs no end.
+        text.pop();
+    }
+    text.into_bytes()
+}
+
+/// A line of a word, if there is one, and numbers; at times after others that
+/// say nothing.
+fn lines(random: &mut Random, word: &str, numbers: &[u16]) -> String {
+    let mut lines = String::new();
+    while random.chance(6) {
+        let nothing = ["", "\r", " \t ", "#", "# tune 1", "\t#1 2 3", "#\0\u{e9}"];
+        lines += *random.pick(&nothing);
+        lines += "\n";
+    }
+    lines += *random.pick(&["", "", "", " ", "\t"]);
+    lines += word;
+    for (place, number) in numbers.iter().enumerate() {
+        if place > 0 || !word.is_empty() {
+            lines += *random.pick(&[" ", " ", " ", "  ", "\t", " \t\r "]);
+        }
+        if random.chance(8) {
+            let most = if random.chance(20) { 100 } else { 3 };
+            lines += &"0".repeat(random.below(most) as usize);
+        }
+        lines += &number.to_string();
+    }
+    lines += *random.pick(&["", "", "", " ", "\r"]);
+    lines + "\n"
 }

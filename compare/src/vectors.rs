@@ -6,12 +6,16 @@ use crate::call::Call;
 use crate::code::Card;
 use crate::random::Random;
 use crate::samples::{self, junk};
+use crate::writer::{book_size, Tunes};
 
 /// The seed of the calls that are stored with the program.
 pub const STORED: u64 = 1;
 
 /// What lists to be filled hold before.
 const FILL: u16 = 99;
+
+/// What books to be filled hold before.
+const FILL_BYTE: u8 = 9;
 
 pub fn calls(seed: u64) -> Vec<Call> {
     let mut calls = paper_cases();
@@ -23,6 +27,8 @@ pub fn calls(seed: u64) -> Vec<Call> {
     calls.extend(book_calls(random));
     calls.extend(body_calls(random));
     calls.extend(place_calls(random));
+    calls.extend(write_calls(random));
+    calls.extend(size_calls());
     calls
 }
 
@@ -95,6 +101,23 @@ fn tune_at(book: &[u8], place: u32) -> Call {
     Call::TuneAt {
         place,
         book: book.to_vec(),
+    }
+}
+
+/// With a book to fill that is as long as it should be, if there is one.
+fn write_book(tunes: &Tunes) -> Call {
+    let size = book_size(&tunes.counts).unwrap_or(22);
+    write_book_of(tunes, size)
+}
+
+/// With a book of so many bytes to fill.
+fn write_book_of(tunes: &Tunes, size: usize) -> Call {
+    let tunes = tunes.clone();
+    Call::WriteBook {
+        numbers: tunes.numbers,
+        counts: tunes.counts,
+        strikes: tunes.strikes,
+        book: vec![FILL_BYTE; size],
     }
 }
 
@@ -291,6 +314,134 @@ fn place_calls(random: &mut Random) -> Vec<Call> {
         let mut faulty = small.clone();
         faulty[place] ^= *random.pick(&[1, 2, 16, 128, 255]);
         calls.push(tune_at(&faulty, 1 + place as u32 % 2));
+    }
+    calls
+}
+
+/// Books to be written: good ones, as many tunes and cards as the program
+/// takes, each boundary, and each refusal before those that come after it.
+fn write_calls(random: &mut Random) -> Vec<Call> {
+    let mut calls = vec![];
+    for counts in [&[][..], &[1], &[3], &[1, 2], &[2, 1, 1], &[1; 16], &[32]] {
+        calls.push(write_book(&samples::tunes(random, counts)));
+    }
+    for strike in [
+        [0, 0, 0],
+        [1, 0, 0],
+        [0, 1, 0],
+        [0, 0, 1],
+        [0, 0, 5],
+        [0, 0, 135],
+        [26, 26, 728],
+    ] {
+        calls.push(write_book(&tunes(&[7], &[1], &strike)));
+    }
+    // Each field out of its range, of whole strikes and of a part of one.
+    for (place, field) in [
+        (0, 27),
+        (1, 27),
+        (2, 729),
+        (3, 65_535),
+        (4, 282),
+        (5, 65_535),
+    ] {
+        let mut tunes = samples::tunes(random, &[1, 1]);
+        tunes.strikes[place] = field;
+        calls.push(write_book(&tunes));
+    }
+    for strikes in [&[27][..], &[0, 27], &[26, 26, 728, 27], &[0, 0, 0, 26, 27]] {
+        calls.push(write_book(&tunes(&[1], &[1], strikes)));
+    }
+    for numbers in [
+        [0, 1],
+        [3, 3],
+        [4, 3],
+        [256, 255],
+        [9_998, 9_999],
+        [9_999, 10_000],
+    ] {
+        calls.push(write_book(&tunes(&numbers, &[1, 1], &[1, 2, 3, 4, 5, 6])));
+    }
+    calls.extend(wrong_books());
+    calls
+}
+
+fn tunes(numbers: &[u16], counts: &[u16], strikes: &[u16]) -> Tunes {
+    Tunes {
+        numbers: numbers.to_vec(),
+        counts: counts.to_vec(),
+        strikes: strikes.to_vec(),
+    }
+}
+
+/// Wrong lengths, and each refusal with all that come after it.
+fn wrong_books() -> Vec<Call> {
+    let good = tunes(&[3, 700], &[1, 1], &[1, 2, 3, 4, 5, 6]);
+    let mut calls = vec![];
+    for size in [0, 30, 41, 43, 54] {
+        calls.push(write_book_of(&good, size));
+    }
+    for len in [0, 3, 5, 7, 9] {
+        let mut tunes = good.clone();
+        tunes.strikes.resize(len, 0);
+        calls.push(write_book(&tunes));
+    }
+    for (numbers, counts) in [(0, 2), (1, 2), (3, 2), (2, 0), (2, 1), (2, 3)] {
+        let mut tunes = good.clone();
+        tunes.numbers.resize(numbers, 800);
+        tunes.counts.resize(counts, 1);
+        calls.push(write_book(&tunes));
+    }
+    for counts in [
+        [0, 2],
+        [1, 0],
+        [0, 0],
+        [5_459, 1],
+        [1, 65_535],
+        [65_535, 65_535],
+    ] {
+        calls.push(write_book(&tunes(&[3, 700], &counts, &[1, 2, 3, 4, 5, 6])));
+    }
+    for (numbers, counts, strikes) in [
+        (&[0][..], &[0, 65_535][..], &[27][..]),
+        (&[0], &[0, 65_535], &[26]),
+        (&[0, 0], &[0, 65_535], &[26]),
+        (&[0, 0], &[0, 5_459], &[26]),
+        (&[1, 2], &[0, 5_459], &[26]),
+        (&[1, 2], &[1, 5_458], &[26]),
+        (&[], &[], &[0, 0, 0]),
+    ] {
+        calls.push(write_book_of(&tunes(numbers, counts, strikes), 3));
+    }
+    calls
+}
+
+/// Sizes of books: small ones, and about the largest.
+fn size_calls() -> Vec<Call> {
+    let mut calls = vec![];
+    for counts in [
+        &[][..],
+        &[0],
+        &[1],
+        &[0, 0],
+        &[2, 3, 4],
+        &[1; 16],
+        &[5_460],
+        &[5_461],
+        &[5_462],
+        &[5_458, 1],
+        &[5_459, 1],
+        &[1, 5_457, 1],
+        &[1, 5_458, 1],
+        &[0, 0, 0, 5_458],
+        &[0, 0, 0, 5_459],
+        &[65_535],
+        &[32_768, 32_769],
+        &[65_535; 16],
+    ] {
+        calls.push(Call::BookSize {
+            counts: counts.to_vec(),
+        });
     }
     calls
 }

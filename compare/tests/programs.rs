@@ -1,13 +1,15 @@
-//! The programs `list_book` and `cases` as they were built: what they print,
-//! against the reference, and what comes of inputs and outputs that fail. All
-//! programs end with the status 0.
+//! The programs `list_book`, `press_book` and `cases` as they were built: what
+//! they print, against the reference, and what comes of inputs and outputs
+//! that fail. All programs end with the status 0.
 
 use compare::book::{listing, LONGEST_BOOK};
 use compare::call::Call;
 use compare::code::{self, Card};
 use compare::random::Random;
 use compare::samples;
+use compare::text::{self, press, Pressed, LONGEST_TEXT};
 use compare::vectors::{self, STORED};
+use compare::writer::Tunes;
 use std::ffi::c_int;
 use std::fs::{self, File};
 use std::io::{self, PipeReader, Read, Write};
@@ -41,13 +43,17 @@ fn program(name: &str) -> PathBuf {
     let path = repository("target/bin").join(name);
     assert!(
         path.is_file(),
-        "no target/bin/{name}: run `rt check list_book cases` in the repository first"
+        "no target/bin/{name}: run `rt check list_book press_book cases` in the repository first"
     );
     path
 }
 
 fn list_book() -> Command {
     Command::new(program("list_book"))
+}
+
+fn press_book() -> Command {
+    Command::new(program("press_book"))
 }
 
 fn milliseconds(count: u64) -> Duration {
@@ -129,6 +135,32 @@ fn check_listing(name: &str, book: &[u8]) {
     expect_printed(list_book().stdin(piped(book)), &text);
     expect_printed(list_book().stdin(open(&path)), &text);
     expect_printed(list_book().arg(&path), &text);
+}
+
+/// Panics unless the program wrote and said what the reference does.
+fn expect_pressed(command: &mut Command, text: &[u8], pressed: &Pressed) {
+    let output = run(command);
+    let text = String::from_utf8_lossy(text);
+    let said = String::from_utf8_lossy(&output.stderr);
+    assert_eq!(said, pressed.err, "{command:?}\n{text}");
+    let written = output.stdout == pressed.out;
+    assert!(written, "{command:?}\nwrites another book\n{text}");
+}
+
+/// Presses a text from a pipe, from a file, and from a file named as argument.
+/// The book that is written lists the strikes of the text.
+fn check_pressing(name: &str, text: &[u8]) -> Pressed {
+    let pressed = press(text);
+    let path = file(name, text);
+    expect_pressed(press_book().stdin(piped(text)), text, &pressed);
+    expect_pressed(press_book().stdin(open(&path)), text, &pressed);
+    expect_pressed(press_book().arg(&path), text, &pressed);
+    if pressed.err.is_empty() {
+        let tunes = text::read(text).expect("a text without mistakes");
+        let listing = samples::listing(&tunes);
+        expect_printed(list_book().stdin(piped(&pressed.out)), &listing);
+    }
+    pressed
 }
 
 /// Cards with damage of all kinds, and one with a wrong symbol. There are few,
@@ -411,6 +443,337 @@ fn writes(command: &mut Command) -> Vec<Vec<u8>> {
     }
 }
 
+/// The texts among the examples, none of which is refused.
+#[test]
+fn example_texts() {
+    let mut count = 0;
+    for entry in fs::read_dir(repository("examples")).expect("a folder of examples") {
+        let path = entry.expect("a file").path();
+        if path.extension().is_some_and(|extension| extension == "txt") {
+            let text = fs::read(path).expect("a text");
+            let pressed = check_pressing("example_texts.txt", &text);
+            assert_eq!(pressed.err, "");
+            assert!(pressed.out.len() > 2, "an example without tunes");
+            count += 1;
+        }
+    }
+    assert!(count > 0, "there are no examples");
+}
+
+/// Random texts: as they should be, and with faults.
+#[test]
+fn texts() {
+    let random = &mut Random::new(4);
+    let mut beginnings = vec![];
+    for turn in 0..600 {
+        let tunes = some_tunes(random);
+        let mut text = samples::text(random, &tunes);
+        for _ in 0..turn % 4 {
+            spoil(random, &mut text);
+        }
+        let pressed = check_pressing("texts.txt", &text);
+        beginnings.push(pressed.err.chars().take(4).collect::<String>());
+    }
+    for beginning in ["", "line", "book"] {
+        let count = beginnings.iter().filter(|said| *said == beginning).count();
+        assert!(count > 60, "only {count} texts of 600 say {beginning:?}");
+    }
+}
+
+/// Up to five tunes of up to six cards. One text in four has a number out of
+/// its range or a tune without cards.
+fn some_tunes(random: &mut Random) -> Tunes {
+    let len = random.below(6) as usize;
+    let faulty = random.chance(4);
+    let counts = random.numbers(len, 6);
+    let counts: Vec<u16> = counts
+        .iter()
+        .map(|count| count + u16::from(!faulty))
+        .collect();
+    let mut tunes = samples::tunes(random, &counts);
+    for list in [&mut tunes.numbers, &mut tunes.strikes] {
+        if faulty && random.chance(2) && !list.is_empty() {
+            let place = random.below(list.len() as u64) as usize;
+            list[place] = *random.pick(&[0, 26, 27, 728, 729, 9_999, 10_000, 65_535]);
+        }
+    }
+    tunes
+}
+
+/// Changes a text in some place: a byte, or a line.
+fn spoil(random: &mut Random, text: &mut Vec<u8>) {
+    let byte = *random.pick(b"\n\n \t\r\x0b\0\xff#-+.,0123456789tuneT");
+    let place = random.below(text.len() as u64 + 1) as usize;
+    let mut lines: Vec<Vec<u8>> = text
+        .split(|byte| *byte == b'\n')
+        .map(<[u8]>::to_vec)
+        .collect();
+    let line = random.below(lines.len() as u64) as usize;
+    match random.below(6) {
+        0 => text.insert(place, byte),
+        1 if place < text.len() => text[place] = byte,
+        2 if place < text.len() => drop(text.remove(place)),
+        3 => text.truncate(place),
+        4 => {
+            lines.insert(line, lines[line].clone());
+            *text = lines.join(&b'\n');
+        }
+        _ => {
+            lines.swap(0, line);
+            *text = lines.join(&b'\n');
+        }
+    }
+}
+
+/// Mistakes of all kinds, in the first line, after others, and before others.
+#[test]
+fn texts_with_mistakes() {
+    let mistakes = [
+        "tune",
+        "tune ",
+        "tune x",
+        "tune 1x",
+        "tune -1",
+        "tune 1 2",
+        "tune 1 # one",
+        "tune #1",
+        "tune 1\u{b}",
+        "tune1",
+        "tunes 1",
+        "Tune 1",
+        "TUNE 1",
+        "1",
+        "1 2",
+        "1 2 3 4",
+        "1 2 x",
+        "1 2 3 # soft",
+        "1,2,3",
+        "1 2 3.",
+        "1 2 +3",
+        "1 2 -3",
+        "x",
+        "\0",
+        "\u{b}",
+        "\u{e9} 1 2",
+        ";",
+        "1 2 tune",
+        "tune tune",
+    ];
+    for mistake in mistakes {
+        let texts = [
+            mistake.to_string(),
+            format!("{mistake}\n"),
+            format!("{mistake}\r\ntune 1\r\n1 2 3\r\n"),
+            format!("tune 1\n1 2 3\n{mistake}"),
+            format!("# {mistake}\n\n \ntune 1\n1 2 3\n\t{mistake} \n1 2\n"),
+            format!("tune 0\n27 27 729\n{mistake}\n"),
+        ];
+        for text in texts {
+            let pressed = check_pressing("texts_with_mistakes.txt", text.as_bytes());
+            assert!(pressed.err.starts_with("line "), "{text:?}");
+        }
+    }
+    for text in ["1 2 3", "# x\n\n1 2 3\ntune 1", "27 27 729\ntune"] {
+        let pressed = check_pressing("texts_with_mistakes.txt", text.as_bytes());
+        assert!(pressed.err.ends_with(": a strike before the first tune\n"));
+    }
+}
+
+/// A line number of several digits, and a mistake at the end of a long text.
+#[test]
+fn late_mistakes() {
+    for lines in [8, 9, 98, 99, 100, 1_000, 9_999, 65_535, 65_536, 131_068] {
+        let text = "\n".repeat(lines) + "tune";
+        let pressed = check_pressing("late_mistakes.txt", text.as_bytes());
+        let said = format!("line {}: a tune needs one number\n", lines + 1);
+        assert_eq!(pressed.err, said);
+    }
+}
+
+/// Texts that say nothing, and long words and lines.
+#[test]
+fn odd_texts() {
+    let nothing = [
+        "",
+        "\n",
+        "\n\n\n",
+        " ",
+        "\t\r\n",
+        "#",
+        "#\n",
+        "# tune 1\n#1 2 3",
+    ];
+    for text in nothing {
+        let pressed = check_pressing("odd_texts.txt", text.as_bytes());
+        assert_eq!(pressed.out, [0, 0], "{text:?}");
+    }
+    let (zeros, nines, blanks) = ("0".repeat(100), "9".repeat(100), " \t\r".repeat(10_000));
+    let long = "z".repeat(50_000);
+    let texts = [
+        (
+            format!("tune {zeros}9999\n{zeros}26 {zeros} {zeros}728"),
+            "",
+        ),
+        (format!("tune {nines}\n1 2 3"), "book refused 6\n"),
+        (format!("tune 1\n{nines} 2 3"), "book refused 10\n"),
+        (format!("tune 1\n1 {nines} 3"), "book refused 10\n"),
+        (format!("tune 1\n1 2 {nines}"), "book refused 10\n"),
+        ("tune 65537\n1 2 3".to_string(), "book refused 6\n"),
+        ("tune 4294967297\n1 2 3".to_string(), "book refused 6\n"),
+        (
+            "tune 18446744073709551617\n1 2 3".to_string(),
+            "book refused 6\n",
+        ),
+        ("tune 1\n65537 2 3".to_string(), "book refused 10\n"),
+        ("tune 1\n1 4294967298 3".to_string(), "book refused 10\n"),
+        (format!("{blanks}tune{blanks}7{blanks}\n1 2 3"), ""),
+        (format!("tune 7\n{blanks}1{blanks}2 3{blanks}"), ""),
+        (format!("#{long}\ntune 7\n# {long}\n1 2 3"), ""),
+        (
+            format!("tune 7\n1 2 3{nines}{long}"),
+            "line 2: neither a tune nor a strike of three numbers\n",
+        ),
+    ];
+    for (text, said) in texts {
+        assert_eq!(check_pressing("odd_texts.txt", text.as_bytes()).err, said);
+    }
+}
+
+#[test]
+fn refused_texts() {
+    let strikes = |count: usize| "0 0 0\n".repeat(count);
+    let tunes = |count: u32| {
+        (1..=count)
+            .map(|n| format!("tune {n}\n"))
+            .collect::<String>()
+    };
+    let texts = [
+        ("tune 1\n27 0 0\n".to_string(), 10),
+        ("tune 1\n0 27 0\n".to_string(), 10),
+        ("tune 1\n0 0 729\n".to_string(), 10),
+        (format!("tune 0\n{}0 0 729\ntune 0\n", strikes(6_000)), 10),
+        (format!("tune 1\n{}", strikes(5_461)), 5),
+        (format!("tune 0\n{}tune 0\n", strikes(21_843)), 5),
+        (tunes(8_192), 5),
+        ("tune 1\n".repeat(18_724), 5),
+        ("tune 0\n0 0 0\n".to_string(), 6),
+        ("tune 10000\n0 0 0\n".to_string(), 6),
+        ("tune 2\n0 0 0\ntune 2\n0 0 0\n".to_string(), 6),
+        ("tune 3\n0 0 0\ntune 2\n".to_string(), 6),
+        ("tune 1\n".to_string(), 7),
+        ("tune 1\ntune 2\n0 0 0\n".to_string(), 7),
+        ("tune 1\n0 0 0\ntune 2".to_string(), 7),
+        (tunes(8_191), 7),
+    ];
+    for (text, refusal) in texts {
+        let pressed = check_pressing("refused_texts.txt", text.as_bytes());
+        assert_eq!(pressed.err, format!("book refused {refusal}\n"));
+    }
+}
+
+/// The largest books, and texts of the largest size and more.
+#[test]
+fn large_texts() {
+    let random = &mut Random::new(5);
+    for counts in [&[5_460][..], &[1, 5_457, 1], &[1; 3_276], &[12; 409]] {
+        let tunes = samples::tunes(random, counts);
+        let text = plain_text(&tunes);
+        let pressed = check_pressing("large_texts.txt", &text);
+        assert_eq!(pressed.err, "");
+        for len in [LONGEST_TEXT, LONGEST_TEXT + 1, LONGEST_TEXT + 70_000] {
+            let mut text = [&text[..], b"#"].concat();
+            text.resize(len, b'#');
+            let longer = check_pressing("large_texts.txt", &text);
+            assert_eq!(longer.err.is_empty(), len == LONGEST_TEXT);
+        }
+    }
+    for byte in *b"\n# t1" {
+        for len in [LONGEST_TEXT - 1, LONGEST_TEXT, LONGEST_TEXT + 1, 1_000_000] {
+            let pressed = check_pressing("large_texts.txt", &vec![byte; len]);
+            let refused = pressed.err == "text refused: more than 131072 bytes\n";
+            assert_eq!(refused, len > LONGEST_TEXT);
+        }
+    }
+}
+
+/// A text without anything that could be left out.
+fn plain_text(tunes: &Tunes) -> Vec<u8> {
+    let mut text = String::new();
+    let mut strikes = tunes.strikes.chunks_exact(3);
+    for (number, count) in tunes.numbers.iter().zip(&tunes.counts) {
+        text += &format!("tune {number}\n");
+        for strike in strikes.by_ref().take((*count).into()) {
+            text += &format!("{} {} {}\n", strike[0], strike[1], strike[2]);
+        }
+    }
+    text.into_bytes()
+}
+
+/// A text that arrives in pieces, with pauses.
+#[test]
+fn slow_text() {
+    let tunes = samples::tunes(&mut Random::new(6), &[3, 2]);
+    let large = samples::tunes(&mut Random::new(7), &[5_460]);
+    let (small, large) = (plain_text(&tunes), plain_text(&large));
+    for (text, size) in [(&small, 1), (&small, 7), (&large, 4_000), (&large, 65_533)] {
+        let pieces = text.chunks(size).map(<[u8]>::to_vec).collect();
+        let input = pipe(pieces, milliseconds(2));
+        expect_pressed(press_book().stdin(input), text, &press(text));
+    }
+}
+
+/// The same for `press_book` as for `list_book`: inputs, arguments and outputs
+/// that fail.
+#[test]
+fn pressing_that_fails() {
+    let folder = repository("examples");
+    expect_said(press_book().stdin(open(&folder)), CANNOT_READ);
+    expect_said(press_book().arg(&folder), CANNOT_READ);
+    expect_said(press_book().arg(repository("no/such.txt")), CANNOT_OPEN);
+    expect_said(press_book().arg(""), CANNOT_OPEN);
+    let closed = r#"exec "$0" <&-"#;
+    expect_said(sh(closed).arg(program("press_book")), CANNOT_READ);
+    for count in 2..=4 {
+        let paths = vec![repository("examples/carol.txt"); count];
+        expect_said(press_book().args(paths), "usage: press_book [FILE]\n");
+    }
+    for text in ["", "tune 1\n1 2 3\n"] {
+        let path = file("pressing_that_fails.txt", text.as_bytes());
+        let full = File::options().write(true).open("/dev/full");
+        let full = full.expect("an output that is always full");
+        expect_said(press_book().arg(&path).stdout(full), CANNOT_WRITE);
+        let script = r#"exec "$0" "$1" >&-"#;
+        let arguments = [&program("press_book"), &path];
+        expect_said(sh(script).args(arguments), CANNOT_WRITE);
+    }
+}
+
+/// A read that fails after some bytes were read.
+#[test]
+fn text_that_fails_late() {
+    for text in [&b"tune 1\n1 2 3\n"[..], b"tune 1", b"x"] {
+        let (reader, mut writer) = io::pipe().expect("a pipe");
+        set_nonblocking(&reader);
+        writer.write_all(text).expect("a pipe with room");
+        expect_said(press_book().stdin(reader), CANNOT_READ);
+        drop(writer);
+    }
+}
+
+/// A book is written with one write, and none is made where there is none.
+#[test]
+fn one_write_of_a_book() {
+    let tunes = samples::tunes(&mut Random::new(8), &[5_460]);
+    for text in [&plain_text(&tunes)[..], b"tune 1\n1 2 3", b""] {
+        assert_eq!(writes(press_book().stdin(piped(text))), [press(text).out]);
+    }
+    for text in [&b"tune 1"[..], b"x"] {
+        let mut command = press_book();
+        command.stdin(piped(text)).stderr(Stdio::null());
+        assert!(writes(&mut command).is_empty());
+    }
+}
+
 fn lines(calls: &[Call]) -> String {
     calls.iter().map(|call| call.line() + "\n").collect()
 }
@@ -418,7 +781,7 @@ fn lines(calls: &[Call]) -> String {
 /// Runs calls through the program `cases`.
 fn check_calls(calls: &[Call]) {
     let input = lines(calls);
-    assert!(input.len() <= 65_536, "{} bytes of calls", input.len());
+    assert!(input.len() <= 131_072, "{} bytes of calls", input.len());
     let output = run(Command::new(program("cases")).stdin(piped(input.as_bytes())));
     assert_eq!(String::from_utf8_lossy(&output.stderr), "");
     let printed = String::from_utf8_lossy(&output.stdout);

@@ -9,6 +9,8 @@ use compare::random::Random;
 use compare::rank::{rank, square, symbols};
 use compare::refusal::Refusal;
 use compare::samples;
+use compare::text::{self, press, LONGEST_TEXT};
+use compare::writer::{book_size, write_book, Tunes};
 use std::collections::HashSet;
 
 fn power_of_z(exponent: u32) -> u16 {
@@ -197,6 +199,246 @@ fn book_refusals() {
     assert_eq!(book::total_delay(&[0; 65_532]), Ok(0));
     assert_eq!(book::total_delay(&[0; 65_544]), Err(Refusal::Length));
     assert_eq!(book::total_delay(&[0; 13]), Err(Refusal::Length));
+}
+
+/// The readable strikes of the paper's book.
+#[test]
+fn writing_case() {
+    let strikes = [1, 0, 0, 0, 0, 1, 1, 0, 0];
+    let book = write_book(&[7], &[3], &strikes, 46).unwrap();
+    let cards = [
+        [1, 3, 9, 27, 81, 243],
+        [3, 279, 233, 650, 423, 163],
+        [1, 3, 9, 27, 81, 243],
+    ];
+    assert_eq!(book[..10], [0, 1, 0, 7, 0, 0, 0, 10, 0, 3]);
+    assert_eq!(book[10..], samples::body(&cards));
+    let text = "tune 7 3\n1 1 0 0 0\n2 0 0 1 0\n3 1 0 0 0\nticks 1\n";
+    assert_eq!(book::listing(&book), text);
+
+    // The second body begins where the first ends.
+    let book = write_book(&[7, 300], &[1, 2], &strikes, 54).unwrap();
+    assert_eq!(book[..10], [0, 2, 0, 7, 0, 0, 0, 18, 0, 1]);
+    assert_eq!(book[10..18], [1, 44, 0, 0, 0, 30, 0, 2]);
+    assert_eq!(book[18..], samples::body(&cards));
+    assert_eq!(write_book(&[], &[], &[], 2), Ok(vec![0, 0]));
+
+    // The force is value 1, and the delay 27·m2 + m3.
+    let book = write_book(&[1], &[1], &[0, 1, 0], 22).unwrap();
+    assert_eq!(book[10..], samples::body(&[[1, 27, 103, 93, 633, 538]]));
+    for (delay, message) in [
+        (5, [0, 0, 0, 5]),
+        (135, [0, 0, 5, 0]),
+        (728, [0, 0, 26, 26]),
+    ] {
+        let book = write_book(&[1], &[1], &[0, 0, delay], 22).unwrap();
+        assert_eq!(
+            book[10..],
+            samples::body(&[encode(2, &message, 6).unwrap()])
+        );
+    }
+}
+
+#[test]
+fn writing_refusals() {
+    let refused = |numbers: &[u16], counts: &[u16], strikes: &[u16], book_len| {
+        write_book(numbers, counts, strikes, book_len)
+            .err()
+            .map_or(0, Refusal::number)
+    };
+    assert_eq!(refused(&[1], &[1], &[26, 26, 728], 22), 0);
+    for strikes in [[27, 0, 0], [0, 27, 0], [0, 0, 729]] {
+        assert_eq!(refused(&[1], &[1], &strikes, 22), 10);
+    }
+    // Each refusal with all that come after it.
+    assert_eq!(refused(&[0, 0], &[0, 65_535, 0], &[0, 0, 0, 27], 1), 10);
+    assert_eq!(refused(&[0, 0], &[0, 65_535, 0], &[0, 0, 728, 26], 1), 2);
+    assert_eq!(refused(&[0, 0], &[0, 65_535], &[0], 1), 5);
+    assert_eq!(refused(&[0, 0], &[0, 1], &[0], 1), 6);
+    assert_eq!(refused(&[1, 2], &[0, 1], &[0], 1), 7);
+    assert_eq!(refused(&[1, 2], &[1, 1], &[0; 5], 42), 2);
+    assert_eq!(refused(&[1, 2], &[1, 1], &[0; 6], 41), 2);
+    assert_eq!(refused(&[1, 2], &[1, 1], &[0; 6], 42), 0);
+    for (numbers, refusal) in [
+        ([1, 9_999], 0),
+        ([1, 10_000], 6),
+        ([0, 1], 6),
+        ([2, 2], 6),
+        ([3, 2], 6),
+    ] {
+        assert_eq!(refused(&numbers, &[1, 1], &[0; 6], 42), refusal);
+    }
+}
+
+#[test]
+fn book_sizes() {
+    for (counts, size) in [
+        (vec![], 2),
+        (vec![0], 10),
+        (vec![1], 22),
+        (vec![5_460], 65_530),
+    ] {
+        assert_eq!(book_size(&counts), Ok(size));
+    }
+    assert_eq!(book_size(&[5_461]), Err(Refusal::BookSize));
+    assert_eq!(book_size(&[1, 5_457, 1]), Ok(65_534));
+    assert_eq!(book_size(&[1; 3_276]), Ok(65_522));
+    assert_eq!(book_size(&[1; 3_277]), Err(Refusal::BookSize));
+    assert_eq!(book_size(&[0; 8_191]), Ok(65_530));
+    assert_eq!(book_size(&[0; 8_192]), Err(Refusal::BookSize));
+    assert_eq!(book_size(&[65_535; 70_000]), Err(Refusal::BookSize));
+}
+
+/// What was written shows the same strikes in the same places, and is written
+/// again from what it shows.
+#[test]
+fn written_books_are_read() {
+    let mut random = Random::new(7);
+    for _ in 0..30 {
+        let len = random.below(5) as usize;
+        let counts: Vec<u16> = random
+            .numbers(len, 4)
+            .iter()
+            .map(|count| count + 1)
+            .collect();
+        let tunes = samples::tunes(&mut random, &counts);
+        let size = book_size(&counts).unwrap();
+        let book = write_book(&tunes.numbers, &tunes.counts, &tunes.strikes, size).unwrap();
+        assert_eq!(book::listing(&book), samples::listing(&tunes));
+    }
+}
+
+/// What the program makes of a text: the book's bytes, or what it says.
+fn pressed(text: &str) -> Result<Vec<u8>, String> {
+    let pressed = press(text.as_bytes());
+    match pressed.err.is_empty() {
+        true => Ok(pressed.out),
+        false => {
+            assert!(pressed.out.is_empty());
+            let line = pressed.err.strip_suffix('\n');
+            Err(line.expect("a line").to_string())
+        }
+    }
+}
+
+#[test]
+fn texts() {
+    let book = write_book(&[7, 300], &[1, 2], &[1, 0, 0, 0, 0, 1, 26, 26, 728], 54).unwrap();
+    let texts = [
+        "tune 7\n1 0 0\ntune 300\n0 0 1\n26 26 728\n",
+        "tune 7\n1 0 0\ntune 300\n0 0 1\n26 26 728",
+        "tune 7\r\n1 0 0\r\ntune 300\r\n0 0 1\r\n26 26 728\r\n",
+        "\ttune\t7\n1 \t 0\r0 \n tune  300\n\n0 0 1\n \t\r\n26 26 728\n\n",
+        "# A tune.\ntune 007\n#1 2 3\n0001 00 0\n  # tune 8\ntune 300\n0 0 1\n#\n26 26 728\n#",
+    ];
+    for text in texts {
+        assert_eq!(pressed(text), Ok(book.clone()), "{text:?}");
+    }
+    for text in ["", "\n", "\n\n", " \t\r", "#", "# tune 1\n\n#1 2 3"] {
+        assert_eq!(pressed(text), Ok(vec![0, 0]), "{text:?}");
+    }
+}
+
+#[test]
+fn texts_with_mistakes() {
+    let tune = "a tune needs one number";
+    let neither = "neither a tune nor a strike of three numbers";
+    let before = "a strike before the first tune";
+    let mistakes = [
+        ("tune", 1, tune),
+        ("\n#\ntune\n", 3, tune),
+        ("tune x", 1, tune),
+        ("tune 1 2", 1, tune),
+        ("tune 1 #", 1, tune),
+        ("tune -1", 1, tune),
+        ("tune 1\u{b}", 1, tune),
+        ("tune1", 1, neither),
+        ("Tune 1", 1, neither),
+        ("tunes 1", 1, neither),
+        ("\0", 1, neither),
+        ("tune 1\n1 2", 2, neither),
+        ("tune 1\n1 2 3 4", 2, neither),
+        ("tune 1\n1 2 3 # soft", 2, neither),
+        ("tune 1\n1 2 +3", 2, neither),
+        ("tune 1\n1,2,3", 2, neither),
+        ("tune 1\n1 2 0x3", 2, neither),
+        ("tune 1\n1 2 3\n\n7", 4, neither),
+        ("1 2 3", 1, before),
+        ("\n1 2 99999\ntune x", 2, before),
+        ("1 2\n1 2 3", 1, neither),
+        // Mistakes come before refusals.
+        ("tune 0\n27 0 0\ntune 0\ntune", 4, tune),
+    ];
+    for (text, line, mistake) in mistakes {
+        assert_eq!(
+            pressed(text),
+            Err(format!("line {line}: {mistake}")),
+            "{text:?}"
+        );
+    }
+}
+
+#[test]
+fn refused_texts() {
+    let strikes = |count: usize| "0 0 0\n".repeat(count);
+    let tunes = |count: u32| {
+        (1..=count)
+            .map(|n| format!("tune {n}\n"))
+            .collect::<String>()
+    };
+    let large = "9".repeat(100);
+    let refused = [
+        (format!("tune 1\n{large} 0 0"), 10),
+        (format!("tune 1\n0 {large} 0"), 10),
+        (format!("tune {large}\n0 0 729\ntune 1"), 10),
+        ("tune 1\n65536 65562 0".to_string(), 10),
+        ("tune 1\n".to_string() + &strikes(5_461), 5),
+        (tunes(8_192), 5),
+        (format!("tune {large}\n0 0 0"), 6),
+        ("tune 65537\n0 0 0".to_string(), 6),
+        ("tune 0\ntune 10000".to_string(), 6),
+        ("tune 2\n0 0 0\ntune 2\n0 0 0".to_string(), 6),
+        (tunes(8_191), 7),
+        ("tune 1".to_string(), 7),
+        ("tune 1\n0 0 0\ntune 2\ntune 3\n0 0 0".to_string(), 7),
+    ];
+    for (text, refusal) in refused {
+        assert_eq!(
+            pressed(&text),
+            Err(format!("book refused {refusal}")),
+            "{text:?}"
+        );
+    }
+    let full = pressed(&("tune 1\n".to_string() + &strikes(5_460)));
+    assert_eq!(full.map(|book| book.len()), Ok(65_530));
+}
+
+#[test]
+fn long_texts() {
+    let comment = |len| "#".repeat(len);
+    assert_eq!(pressed(&comment(LONGEST_TEXT)), Ok(vec![0, 0]));
+    let refusal = Err("text refused: more than 131072 bytes".to_string());
+    assert_eq!(pressed(&comment(LONGEST_TEXT + 1)), refusal);
+    assert_eq!(
+        pressed(&("tune\n".to_string() + &comment(LONGEST_TEXT))),
+        refusal
+    );
+}
+
+/// A text says the tunes that it was made of.
+#[test]
+fn texts_of_tunes() {
+    let mut random = Random::new(8);
+    for _ in 0..2_000 {
+        let len = random.below(6) as usize;
+        let counts = random.numbers(len, 6);
+        let tunes = Tunes {
+            numbers: samples::junk(&mut random, len),
+            ..samples::tunes(&mut random, &counts)
+        };
+        let text = samples::text(&mut random, &tunes);
+        assert_eq!(text::read(&text), Ok(tunes));
+    }
 }
 
 /// Words of k = 1 and 2 have at least the rank 7 - k, and some have it. For

@@ -7,8 +7,9 @@
 //! each card and then takes the sum of the delays; `listing in memory` makes
 //! the text; `list_book process` runs the program `list_book`, or the program
 //! `fast_listing`, from its start to its end, with the book in a file and the
-//! output in a pipe. A book has one tune of 5,460 cards, or where the damage
-//! is `0 tunes`, 3,276 tunes of one card.
+//! output in a pipe; `write book` writes the book of its strikes. A book has
+//! one tune of 5,460 cards, or where the damage is `0 tunes`, 3,276 tunes of
+//! one card. `book size` asks for the size of a book of 3,276 tunes.
 //!
 //! With the name of an operation as arguments it prints only the rows of that.
 //! With the words of a row before its times it makes only that row's calls,
@@ -21,6 +22,7 @@ use compare::fast::Fast;
 use compare::library::Library;
 use compare::random::Random;
 use compare::samples;
+use compare::writer::{book_size, Tunes};
 use std::fs::{self, File};
 use std::hint::black_box;
 use std::io::Read;
@@ -69,6 +71,8 @@ fn main() {
     read_book_rows();
     listing_rows();
     process_rows();
+    write_book_rows();
+    book_size_row();
 }
 
 fn encode_rows() {
@@ -194,6 +198,42 @@ fn process_rows() {
         assert!(proved == rust, "the programs disagree");
         fs::remove_file(book).expect("the file that was written");
     }
+}
+
+fn write_book_rows() {
+    for (damage, counts) in [
+        ("0", vec![FULL_BOOK as u16]),
+        ("0 tunes", vec![1; MOST_TUNES]),
+    ] {
+        let names = ["write book", "2", damage];
+        if !is_wanted(names) {
+            continue;
+        }
+        let tunes = samples::tunes(&mut Random::new(2), &counts);
+        let size = book_size(&counts).expect("a book");
+        let (mut proved, mut rust) = (vec![0; size], vec![0; size]);
+        row(
+            names,
+            1,
+            || write_book::<Proved>(&tunes, &mut proved),
+            || write_book::<Fast>(&tunes, &mut rust),
+        );
+        assert!(proved == rust, "the books disagree");
+    }
+}
+
+fn book_size_row() {
+    let names = ["book size", "-", "-"];
+    if !is_wanted(names) {
+        return;
+    }
+    let counts = [1; MOST_TUNES];
+    row(
+        names,
+        1,
+        || size_of::<Proved>(&counts),
+        || size_of::<Fast>(&counts),
+    );
 }
 
 /// The program of the repository.
@@ -347,6 +387,19 @@ fn list<L: Library>(book: &[u8], text: &mut [u8]) -> u64 {
     let mut written = 0;
     assert_eq!(L::list(book, text, &mut written), 0);
     written as u64
+}
+
+/// Writes a book; gives back a byte of its last card.
+fn write_book<L: Library>(tunes: &Tunes, book: &mut [u8]) -> u64 {
+    let status = L::write_book(&tunes.numbers, &tunes.counts, &tunes.strikes, book);
+    assert_eq!(status, 0);
+    book.last().copied().map_or(0, u64::from)
+}
+
+fn size_of<L: Library>(counts: &[u16]) -> u64 {
+    let mut size = 0;
+    assert_eq!(L::book_size(black_box(counts), &mut size), 0);
+    size as u64
 }
 
 /// Runs a program on a book; gives back the length of what it printed.

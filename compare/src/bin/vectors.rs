@@ -6,8 +6,8 @@
 use compare::vectors::{calls, STORED};
 use std::{env, fs, process};
 
-const LONGEST_LINE: usize = 500;
-const MOST_BYTES: usize = 65_000;
+const LONGEST_LINE: usize = 1_200;
+const MOST_BYTES: usize = 131_000;
 
 fn main() {
     let arguments: Vec<String> = env::args().skip(1).collect();

@@ -9,6 +9,8 @@ use compare::library::Library;
 use compare::random::Random;
 use compare::samples::{self, junk};
 
+pub mod writing;
+
 /// Values of k that are refused. Some are right in their low 8 or 16 bits.
 const WRONG_K: [u32; 14] = [
     0,
@@ -722,6 +724,71 @@ macro_rules! suite {
         #[test]
         fn listing_lengths() {
             suite::listing_lengths::<$library>();
+        }
+
+        #[test]
+        fn write_tunes() {
+            suite::writing::tunes::<$library>();
+        }
+
+        #[test]
+        fn write_all_strikes() {
+            suite::writing::all_strikes::<$library>();
+        }
+
+        #[test]
+        fn write_faults() {
+            suite::writing::faults::<$library>();
+        }
+
+        #[test]
+        fn write_fields() {
+            suite::writing::fields::<$library>();
+        }
+
+        #[test]
+        fn write_lists() {
+            suite::writing::lists::<$library>();
+        }
+
+        #[test]
+        fn write_any_lists() {
+            suite::writing::any_lists::<$library>();
+        }
+
+        #[test]
+        fn write_large_books() {
+            suite::writing::large_books::<$library>();
+        }
+
+        #[test]
+        fn write_long_lists() {
+            suite::writing::long_lists::<$library>();
+        }
+
+        #[test]
+        fn write_long_strikes() {
+            suite::writing::long_strikes::<$library>();
+        }
+
+        #[test]
+        fn write_wrapping_sums() {
+            suite::writing::wrapping_sums::<$library>();
+        }
+
+        #[test]
+        fn book_sizes() {
+            suite::writing::sizes::<$library>();
+        }
+
+        #[test]
+        fn written_and_read() {
+            suite::writing::written_and_read::<$library>();
+        }
+
+        #[test]
+        fn read_and_written() {
+            suite::writing::read_and_written::<$library>();
         }
     };
 }

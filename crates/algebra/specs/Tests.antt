@@ -1,6 +1,6 @@
 -- Tests: what a computed test of all numbers below n shows of each, the test by which lists are cards and messages, and proofs for each of
 -- a few numbers.
--- Main: tested, tested-2, tested-if, some-below, passed, passes, one-to-five, below-six.
+-- Main: both, neither, tested, tested-2, tested-if, some-below, passed, passes, one-to-five, below-six.
 use mathlib.Core.Path.{_≡_, refl, sym}
 use mathlib.Core.Bool.{Bool, true, false, _&&_, _||_, not, true≢false}
 use mathlib.Core.List.{List, [], _∷_}
@@ -15,6 +15,10 @@ use Rattle.algebra.specs.Lists.{All}
 pub both : (a b : Bool) → (a && b) ≡ true → (a ≡ true) × (b ≡ true)
 both true b e = (refl, e)
 both false b e = absurd (true≢false (sym e))
+
+pub neither : (a b : Bool) → (a || b) ≡ false → (a ≡ false) × (b ≡ false)
+neither true b e = absurd (true≢false e)
+neither false b e = (refl, e)
 
 -- ALL NUMBERS BELOW n
 unfoldable pub every : (n : ℕ) → (ℕ → Bool) → Bool

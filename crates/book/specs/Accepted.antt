@@ -2,7 +2,7 @@
 -- Main: Accepted-entry, book-within, entries-within; first-begins, parts-adjoin, parts-apart, part-within, part-length, part-some, last-ends,
 -- part-good; number-range, numbers-rise, one-entry.
 use mathlib.Core.Path.{_≡_, refl, sym, _∙_, ap}
-use mathlib.Core.Bool.{Bool, true, false, _&&_, _||_, cond, true≢false, and-eq-true-iff}
+use mathlib.Core.Bool.{Bool, true, false, _&&_, _||_, cond, and-eq-true-iff}
 use mathlib.Core.List.{List}
 use Prim.Native.Nat.{ℕ, zero, suc, _+_, _*_, _%_, _≤_, _<_}
 use native.Mathlib.Decide.{ℕ-discrete, decLt}
@@ -12,6 +12,7 @@ use lib.Dec.{ltb, leb, eqb}
 use lib.ListN.{length, drop, length-drop}
 use lib.Seq.{length-take-le}
 use borrow.Author.Tests.{ltb-false, leb-true, eqb-true, not-false, le-leb, eq-eqb}
+use Rattle.algebra.specs.Tests.{neither}
 use Rattle.refusal.specs.Replies.{number}
 use Rattle.refusal.specs.declared.Refusal.the-variants.{BookSize, TuneNumber, Layout}
 use Rattle.book.specs.Layout.{longest-book, tunes, contents-end, Entries-within, tune-number, offset, cards, part-of, body-good}
@@ -42,10 +43,6 @@ open-passed bs a = go (size-bad bs) refl (numbers-bad bs) refl (bodies-bad bs) r
     go false p true q b r e = absurd (omega arith)
     go false p false q true r e = absurd (omega arith)
     go false p false q false r e = record { size = p; numbers = q; bodies = r }
-
-pub neither : (a b : Bool) → (a || b) ≡ false → (a ≡ false) × (b ≡ false)
-neither true b e = absurd (true≢false e)
-neither false b e = (refl, e)
 
 -- at most 65,536 bytes, the count of tunes is there, and so is each entry
 pub size-within : (bs : List ℕ) → size-bad bs ≡ false → (length bs ≤ longest-book) × (2 ≤ length bs) × Entries-within bs

@@ -11,7 +11,7 @@ use lib.Dec.{ltb, eqb}
 use lib.ListN.{length, take, drop}
 use lib.Seq.{getD-take, getD-drop}
 use borrow.Author.Tests.{eqb-false, ltb-false, le-ltb, eq-eqb, ne-eqb}
-use Rattle.algebra.specs.Tests.{any-above}
+use Rattle.algebra.specs.Tests.{any-above, neither}
 use Rattle.refusal.specs.Replies.{number, Reply, replied, refused-with, reply-with}
 use Rattle.refusal.specs.declared.Refusal.the-variants.{Length, Range, Undecodable, NoSuchCard}
 use Rattle.rank.specs.declared.Weight.{Weight}
@@ -25,7 +25,6 @@ use Rattle.candidate.specs.declared.found.Found.{Found}
 use Rattle.candidate.specs.Finding.{found-message, Consistent, message-some, message-none}
 use Rattle.book.specs.Layout.{big, body-good, symbols-from, card}
 use Rattle.book.specs.Reading.{Card-value, no-value, card-refusal, value-of-card, card-reading, cards-in, no-card, read-refusal, reading}
-use Rattle.book.specs.Accepted.{neither}
 
 -- TWELVE BYTES
 big-drop : (a : ℕ) (l : List ℕ) (i : ℕ) → big (drop a l) i ≡ big l (a + i)

@@ -1,23 +1,22 @@
 -- What Open refuses (document 01: Open), as three tests of a book.
--- Main: open-refusal.
+-- Main: rising, open-refusal.
 use mathlib.Core.Bool.{Bool, true, _&&_, _||_, not, cond}
-use mathlib.Core.List.{List}
+use mathlib.Core.List.{List, [], _∷_}
 use Prim.Native.Nat.{ℕ, zero, suc, _+_, _*_}
 use lib.Dec.{ltb, leb, eqb}
 use lib.ListN.{length}
 use Rattle.refusal.specs.Replies.{number}
 use Rattle.refusal.specs.declared.Refusal.the-variants.{BookSize, TuneNumber, Layout}
-use Rattle.book.specs.Layout.{longest-book, tunes, contents-end, tune-number, offset, cards}
+use Rattle.book.specs.Layout.{longest-book, tunes, contents-end, offset, cards, tune-numbers}
 
 -- over 65,536 bytes, under 2, or under 2 + 8N
 unfoldable pub size-bad : List ℕ → Bool
 size-bad bs = ltb longest-book (length bs) || (ltb (length bs) 2 || ltb (length bs) (contents-end (tunes bs)))
 
--- `left` tune numbers from entry e on are at least `least`, at most 9,999, and strictly rising
-unfoldable pub numbers-good : (left e : ℕ) → (least : ℕ) → List ℕ → Bool
-numbers-good zero e l bs = true
-numbers-good (suc k) e l bs =
-    (leb l (tune-number bs e) && leb (tune-number bs e) 9999) && numbers-good k (suc e) (suc (tune-number bs e)) bs
+-- tune numbers are at least `least`, at most 9,999, and strictly rising
+unfoldable pub rising : (least : ℕ) → (numbers : List ℕ) → Bool
+rising l [] = true
+rising l (n ∷ ns) = (leb l n && leb n 9999) && rising (suc n) ns
 
 -- `left` bodies from entry e on have cards, each begins where those before it end, the first at `end`, and they end with the file
 unfoldable pub bodies-good : (left e : ℕ) → (end : ℕ) → List ℕ → Bool
@@ -27,7 +26,7 @@ bodies-good (suc k) e x bs =
 
 -- some tune number breaks its range or rise
 unfoldable pub numbers-bad : List ℕ → Bool
-numbers-bad bs = not (numbers-good (tunes bs) 0 1 bs)
+numbers-bad bs = not (rising 1 (tune-numbers bs))
 
 -- some count is 0, some offset is not where the bodies before it end (for the first entry 2 + 8N), or the bodies do not end with the file
 unfoldable pub bodies-bad : List ℕ → Bool

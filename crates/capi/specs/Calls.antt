@@ -1,5 +1,5 @@
 -- What the functions of the C interface promise: the refusal's number, and what is in each list and number lent afterwards.
--- Main: Gives, Encodes, Tests, Decodes, Pulls, Lists, Reads, Names, Writes.
+-- Main: Gives, Encodes, Tests, Decodes, Pulls, Lists, Reads, Names, Writes, Fills.
 use mathlib.Core.Path.{_≡_}
 use mathlib.Core.Bool.{true, false}
 use mathlib.Core.List.{List}
@@ -19,6 +19,7 @@ use Rattle.book.specs.Reading.{reading}
 use Rattle.book.specs.Bodies.{body-refusal, Named}
 use Rattle.text.specs.Text.{written, room-refusal}
 use Rattle.listing.specs.Listing.{listing, longest}
+use Rattle.writer.specs.Writing.{book-bytes, write-refusal}
 
 -- a call whose refusal is n and whose answer is v
 pub record Gives (n v old r now : ℕ) : Type 0 where
@@ -76,3 +77,8 @@ pub record Writes (bs text : List ℕ) (w r : ℕ) (text-now : List ℕ) (w-now 
   pub answers : r ≡ room-refusal longest text
   pub text-is : text-now ≡ unless (room-refusal longest text) (written text 0 (listing bs)) text
   pub written-is : w-now ≡ unless (room-refusal longest text) (length (listing bs)) w
+
+-- writing fills a book
+pub record Fills (ns cs ss bs : List ℕ) (r : ℕ) (bs-now : List ℕ) : Type 0 where
+  pub answers : r ≡ write-refusal ns cs ss (length bs)
+  pub book-is : bs-now ≡ unless (write-refusal ns cs ss (length bs)) (book-bytes ns cs ss) bs

@@ -6,7 +6,8 @@ ghost use Rattle.rank.specs.Weight.{weight-of, weight-reply, weight-refusal};
 ghost use Rattle.book.specs.Layout.{tunes};
 ghost use Rattle.book.specs.Open.{open-refusal};
 ghost use Rattle.book.specs.Bodies.{body-refusal, total-delay};
-ghost use Rattle.capi.specs.Calls.{Gives, Encodes, Tests, Decodes, Pulls, Lists, Reads, Names, Writes};
+ghost use Rattle.writer.specs.Writing.{book-length, size-refusal};
+ghost use Rattle.capi.specs.Calls.{Gives, Encodes, Tests, Decodes, Pulls, Lists, Reads, Names, Writes, Fills};
 use book::Entry;
 use book::Reading;
 use book::Worn;
@@ -22,6 +23,20 @@ fn give(a: Answer, value: &mut u32) -> u32
         Answer::Refused(why) => refusal::number(why),
         Answer::Value(v) => {
             *value = v;
+            0
+        },
+    }
+}
+
+// The same of a value that is a size, in bytes.
+fn give_size(a: Answer, size: &mut usize) -> u32
+    ensures refusal { λ r. ⌜ r ≡ reply a .refusal ⌝ }
+    ensures given { λ r. ⌜ now (size .exit) ≡ unless (reply a .refusal) (reply a .value) (now (size .entry)) ⌝ }
+{
+    match a {
+        Answer::Refused(why) => refusal::number(why),
+        Answer::Value(v) => {
+            *size = v as usize;
             0
         },
     }
@@ -183,11 +198,26 @@ pub extern "C" fn lucetcoral_damaged_card(body: &[u8], card: &mut u32) -> u32
 pub extern "C" fn lucetcoral_list(book: &[u8], text: &mut [u8], written: &mut usize) -> u32
     ensures { λ r. ⌜ Writes (now (book .entry)) (now (text .entry)) (now (written .entry)) r (now (text .exit)) (now (written .exit)) ⌝ }
 {
-    match listing::write_listing(book, text) {
-        Answer::Refused(why) => refusal::number(why),
-        Answer::Value(size) => {
-            *written = size as usize;
-            0
-        },
-    }
+    give_size(listing::write_listing(book, text), written)
+}
+
+// A book filled from tune numbers, counts of cards and strikes.
+#[no_mangle]
+pub extern "C" fn lucetcoral_write_book(
+    numbers: &[u16],
+    counts: &[u16],
+    strikes: &[u16],
+    book: &mut [u8],
+) -> u32
+    ensures { λ r. ⌜ Fills (now (numbers .entry)) (now (counts .entry)) (now (strikes .entry)) (now (book .entry)) r (now (book .exit)) ⌝ }
+{
+    refusal::outcome_number(writer::write_book(numbers, counts, strikes, book))
+}
+
+// How many bytes a book with these counts of cards has.
+#[no_mangle]
+pub extern "C" fn lucetcoral_book_size(counts: &[u16], size: &mut usize) -> u32
+    ensures { λ r. ⌜ Gives (size-refusal (now (counts .entry))) (book-length (now (counts .entry))) (now (size .entry)) r (now (size .exit)) ⌝ }
+{
+    give_size(writer::book_size(counts), size)
 }

@@ -1,7 +1,8 @@
 // Runs calls of the operations, one a line of standard input, and prints a line for what comes of each. A call is the number of the
 // operation, then k, the number of a tune or a card, or a place if it takes one, then its lists, each as its length and its values. What comes of it
 // is the status, 0 or the refusal, then the numbers given back, then the lists that were lent to be filled.
-// Assumes what `io` and `libc` assume of reading and writing; of the input, at most 65,536 bytes are read.
+// Assumes what `io` and `libc` assume of reading and writing; of the input, at most 131,072 bytes are read.
+mod books;
 mod code;
 mod parse;
 mod print;
@@ -22,6 +23,8 @@ fn run(line: &[u8]) {
         8 => tunes::total_delay(line, at),
         9 => tunes::damaged_card(line, at),
         10 => tunes::tune_at(line, at),
+        11 => books::write_book(line, at),
+        12 => books::book_size(line, at),
         _ => {},
     }
     io::write_all(1, b"\n");
@@ -37,7 +40,7 @@ fn run_lines(text: &[u8]) {
 }
 
 fn main() {
-    let mut buffer = io::large_buffer();
+    let mut buffer = [0u8; 131072];
     let n = io::read_full(0, &mut buffer);
     run_lines(&buffer[..n]);
 }

@@ -93,3 +93,11 @@ pub(crate) fn symbols(list: &[u16]) {
         i += 1;
     }
 }
+
+pub(crate) fn bytes(list: &[u8]) {
+    let mut i = 0;
+    while i < list.len() {
+        number(list[i] as u64);
+        i += 1;
+    }
+}

@@ -1,5 +1,5 @@
--- What is demanded of Open, Pull, Read, Length and Worn, proved: each from the operation's contract.
--- Main: open-says, find-says, body-says, read-says, length-says, worn-says.
+-- What is demanded of Open, Pull, Read, Length, Worn, Write and Size, proved: each from the operation's contract.
+-- Main: open-says, pull-says, find-says, body-says, read-is, read-says, length-says, worn-says, write-says, size-says.
 use mathlib.Core.Path.{_≡_, refl, sym, ap, _∙_}
 use mathlib.Core.Logic.{_⊎_, inl, inr}
 use mathlib.Core.Bool.{Bool, true, false, _||_, not, true≢false}
@@ -8,11 +8,12 @@ use mathlib.Core.Option.{Option, none, some}
 use Prim.Native.Nat.{ℕ, zero, suc, _≤_}
 use native.Mathlib.Omega.{arith}
 use lib.Dec.{eqb}
+use lib.ListN.{length}
 use borrow.Author.Tests.{eqb-true, not-false}
-use Rattle.algebra.specs.Tests.{any-above}
+use Rattle.algebra.specs.Tests.{any-above, neither}
 use Rattle.refusal.specs.declared.Outcome.{Outcome}
 use Rattle.refusal.specs.declared.Answer.{Answer}
-use Rattle.refusal.specs.Replies.{Reply, outcome, reply, reply-with}
+use Rattle.refusal.specs.Replies.{Reply, outcome, reply, reply-with, unless}
 use Rattle.coding.specs.Decode.{decode}
 use Rattle.coding.specs.Proved.{decode-none}
 use Rattle.book.specs.declared.reading.Reading.{Reading}
@@ -22,14 +23,17 @@ use Rattle.book.specs.Open.{size-bad, numbers-bad, bodies-bad, open-refusal}
 use Rattle.book.specs.Pull.{entry-of, missing, part-at, pull-refusal, pulled}
 use Rattle.book.specs.Reading.{read-reply, cards-in, no-card, reading}
 use Rattle.book.specs.Bodies.{body-refusal, delays-from, total-delay, flawed, is-damaged, worn-reply, Worn-answers, Named}
-use Rattle.book.specs.Accepted.{neither, one-entry}
+use Rattle.book.specs.Accepted.{one-entry}
 use Rattle.book.specs.Pulled.{pull-accepted, pull-refused, pulled-accepted, pulled-refused, entry-found, entry-there, empty-refused}
 use Rattle.book.specs.CardReading.{card-range, card-lost, card-strike, card-passes, read-bad, read-past, read-there}
+use Rattle.writer.specs.Writing.{book-length, size-refusal, lengths-good, write-refusal, Written}
+use Rattle.writer.specs.Shown.{written-shows}
 use Rattle.demands.specs.Settled.{read-settled}
 use Rattle.demands.specs.CardDemands.{the-near}
 use Rattle.demands.specs.Demands.{opening-refusal, Open-says, Pulled, Missing, Pull-as, Pull-says}
 use Rattle.demands.specs.Demands.{reading-refusal, Read-strike, Read-card, Read-as, Read-says}
 use Rattle.demands.specs.Demands.{Delays, at-end, one-card, Length-as, Length-says, Damaged, Worn-card, Worn-as, Worn-says}
+use Rattle.demands.specs.Demands.{writing-refusal, Write-says, Size-says}
 
 -- OPEN
 pub open-says : (bs : List ℕ) (r : Answer) → reply r ≡ reply-with 0 (open-refusal bs) (tunes bs) → Open-says bs (reply r)
@@ -65,7 +69,7 @@ module _ (bs : List ℕ) (t : ℕ) where
       let n : open-refusal bs ≡ 0 → ⊥ = λ z. omega arith in
       (pull-refused bs t n ∙ e, pulled-refused bs t n)
 
-  pull-says : Pull-says bs t (pull-refusal bs t) (pulled bs t)
+  pub pull-says : Pull-says bs t (pull-refusal bs t) (pulled bs t)
   unfolding Pull-says opening-refusal open-refusal size-bad numbers-bad bodies-bad
   pull-says = pull-as _ refl
 
@@ -76,7 +80,7 @@ pub body-says : (bs : List ℕ) (t : ℕ) (part : List ℕ) → part ≡ pulled 
 body-says bs t part e = (pull-refusal bs t, rw e (pull-says bs t))
 
 -- READ
-read-is : (bs : List ℕ) (n : ℕ) → Read-says bs n (reading bs n)
+pub read-is : (bs : List ℕ) (n : ℕ) → Read-says bs n (reading bs n)
 unfolding Read-says Read-as Read-card Read-strike reading-refusal no-card card symbols-from
 read-is bs n = go (body-good bs) refl (no-card bs n) refl (any-above 728 c) refl (decode 2 c) refl
   where
@@ -140,3 +144,14 @@ worn-says bs r w = go (worn-reply r) (body-good bs) refl w
     go s false h w =
         let a : s .refusal ≡ 2 = w .refusal ∙ rw h in
         λ i. record { refusal = a i; value = w .refused h i }
+
+-- WRITE
+pub write-says : {ns cs ss bs : List ℕ} {r : Outcome} {b : List ℕ} → Written ns cs ss bs r b → Write-says ns cs ss (outcome r) bs b
+unfolding Write-says writing-refusal write-refusal lengths-good book-length unless
+write-says {ns} {cs} {ss} {bs} w =
+    (w .answers, w .book-is, λ z. let e = sym (w .answers) ∙ z in rw (w .book-is, e) (written-shows ns cs ss (length bs) e))
+
+-- SIZE
+pub size-says : (cs : List ℕ) (r : Answer) → reply r ≡ reply-with 0 (size-refusal cs) (book-length cs) → Size-says cs (reply r)
+unfolding Size-says size-refusal book-length
+size-says cs r e = e

@@ -1,8 +1,9 @@
 -- The page that a sceptic reads first: what each operation answers and leaves in the lists lent to it, in the words of SPECIFICATION 8.
 -- src/lib.rt promises it of the operations themselves. To be read with rank/Definitions, rank/Weight, coding/Code, coding/Promise, strike/Strikes,
--- book/Layout and book/Open. Answers are replies (refusal/Replies): `outcome`, `reply`, `weight-reply` (rank/Weight), `read-reply` (book/Reading) and
+-- book/Layout and book/Open; for Write also with strike/Turns, writer/Writing and `Shows` of writer/Shown. What holds of written books is `Books-say`
+-- (WrittenBooks). Answers are replies (refusal/Replies): `outcome`, `reply`, `weight-reply` (rank/Weight), `read-reply` (book/Reading) and
 -- `worn-reply` (book/Bodies) give them for each case of an enum. A message or a list mu that is named here is the only one of its kind.
--- Main: Code-says, Press-says, Weigh-says, Test-says, Mend-says, Open-says, Pull-says, Read-says, Length-says, Worn-says.
+-- Main: Code-says, Press-says, Weigh-says, Test-says, Mend-says, Open-says, Pull-says, Read-says, Length-says, Worn-says, Write-says, Size-says.
 --
 -- THE FIRST DEMAND: every operation ends, does nothing undefined, refuses bad input by number in a fixed order, and then changes nothing.
 -- That it ends and does nothing undefined is what a proof in Rattle is, and no operation has a `requires`. Each `-refusal` below has the numbers
@@ -28,9 +29,12 @@ use Rattle.coding.specs.Code.{word, Near, test-values}
 use Rattle.coding.specs.Promise.{One-near, Far-apart, Words-cards, Mu, Mu-there, Test-tells}
 use Rattle.codec.specs.Operations.{k-bad}
 use Rattle.strike.specs.Strikes.{strike-of}
-use Rattle.book.specs.Layout.{tunes, tune-number, offset, cards, body-good, card}
-use Rattle.book.specs.Open.{numbers-good, bodies-good}
+use Rattle.strike.specs.Turns.{any-beyond}
+use Rattle.book.specs.Layout.{tunes, tune-number, offset, cards, tune-numbers, body-good, card}
+use Rattle.book.specs.Open.{rising, bodies-good}
 use Rattle.book.specs.Reading.{Card-value, no-value, cards-in}
+use Rattle.writer.specs.Writing.{all-cards, any-zero, book-bytes}
+use Rattle.writer.specs.Shown.{Shows}
 
 -- THE CODE ITSELF: One-near is the third demand's, the others are the second's
 pub record Code-says : Type 0 where
@@ -99,7 +103,7 @@ Mend-says k c r w v m n = Mend-as (mend-refusal k c (length w) (length m)) k c r
 unfoldable pub opening-refusal : List ℕ → ℕ
 opening-refusal bs =
     cond (ltb 65536 (length bs) || (ltb (length bs) 2 || ltb (length bs) (2 + 8 * tunes bs))) 5
-    (cond (not (numbers-good (tunes bs) 0 1 bs)) 6 (cond (not (bodies-good (tunes bs) 0 (2 + 8 * tunes bs) bs)) 7 0))
+    (cond (not (rising 1 (tune-numbers bs))) 6 (cond (not (bodies-good (tunes bs) 0 (2 + 8 * tunes bs) bs)) 7 0))
 
 unfoldable pub Open-says : List ℕ → Reply ℕ → Type 0
 Open-says bs r = r ≡ reply-with 0 (opening-refusal bs) (tunes bs)
@@ -166,3 +170,27 @@ Worn-as false bs r = r ≡ refused-with none 2
 
 unfoldable pub Worn-says : (body : List ℕ) → Reply (Option ℕ) → Type 0
 Worn-says bs r = Worn-as (body-good bs) bs r
+
+-- how many bytes a book with these counts of cards has
+abbrev pub bytes-needed : (counts : List ℕ) → ℕ
+bytes-needed cs = 2 + 8 * length cs + 12 * all-cards cs
+
+-- WRITE (document 02, P1): 10 for a number of the strikes, bell, force and delay by turns; 2 unless there are as many counts as tune numbers; 5; 6;
+-- 7 for a count of 0; 2 unless each card has its three numbers and the lent book the length; else the book of the lists, and it shows them
+unfoldable pub writing-refusal : (numbers counts strikes : List ℕ) → (room : ℕ) → ℕ
+writing-refusal ns cs ss w =
+    cond (any-beyond 26 26 728 ss) 10
+    (cond (not (eqb (length cs) (length ns))) 2
+    (cond (ltb 65536 (bytes-needed cs)) 5
+    (cond (not (rising 1 ns)) 6
+    (cond (any-zero cs) 7
+    (cond (not (eqb (length ss) (3 * all-cards cs) && eqb w (bytes-needed cs))) 2 0)))))
+
+unfoldable pub Write-says : (numbers counts strikes : List ℕ) → (r : ℕ) → (bs bs-now : List ℕ) → Type 0
+Write-says ns cs ss r bs b =
+    (r ≡ writing-refusal ns cs ss (length bs)) × (b ≡ cond (eqb (writing-refusal ns cs ss (length bs)) 0) (book-bytes ns cs ss) bs)
+    × (r ≡ 0 → Shows ns cs ss b)
+
+-- SIZE (document 02, P1): 5; else how many bytes a book with these counts of cards has
+unfoldable pub Size-says : (counts : List ℕ) → Reply ℕ → Type 0
+Size-says cs r = r ≡ reply-with 0 (cond (ltb 65536 (bytes-needed cs)) 5 0) (bytes-needed cs)

@@ -3,8 +3,10 @@
 pub mod Demands
 -- What is said leaves nothing free
 pub mod Settled
--- What is said holds: of the code, Press, Weigh, Test and Mend; of Open, Pull, Read, Length and Worn
+-- What is said holds: of the code, Press, Weigh, Test and Mend; of Open, Pull, Read, Length, Worn, Write and Size
 pub mod CardDemands
 pub mod BookDemands
+-- What holds of written books, stated and proved
+pub mod WrittenBooks
 -- The cases that are to be theorems
 pub mod Cases

@@ -1,5 +1,5 @@
--- What is said leaves nothing free: two answers of which a statement holds are the same, and so are the lists left behind. Press, Weigh and Open
--- are equations already; each other statement is its `-as` at a number x. The card that Worn names is free.
+-- What is said leaves nothing free: two answers of which a statement holds are the same, and so are the lists left behind. Press, Weigh, Open, Write
+-- and Size are equations already; each other statement is its `-as` at a number x. The card that Worn names is free.
 -- Main: test-settled, mend-settled, pull-settled, read-settled, delays-settled.
 use mathlib.Core.Path.{_≡_, refl}
 use mathlib.Core.Logic.{inl, inr}

@@ -7,7 +7,7 @@ ghost use Rattle.rank.specs.Weight.{weight-reply};
 ghost use Rattle.book.specs.Reading.{read-reply};
 ghost use Rattle.book.specs.Bodies.{worn-reply};
 ghost use Rattle.demands.specs.Demands.{Press-says, Weigh-says, Test-says, Mend-says};
-ghost use Rattle.demands.specs.Demands.{Open-says, Pull-says, Read-says, Length-says, Worn-says};
+ghost use Rattle.demands.specs.Demands.{Open-says, Pull-says, Read-says, Length-says, Worn-says, Write-says, Size-says};
 use book::Reading;
 use book::Worn;
 use rank::Weighed;
@@ -82,4 +82,18 @@ pub fn damaged_card(body: &[u8]) -> Worn
     ensures { λ r. ⌜ Worn-says (now (body .entry)) (worn-reply r) ⌝ }
 {
     book::damaged_card(body)
+}
+
+// The lent book is filled with the book of the lists, which shows them (document 02, P1).
+pub fn write_book(numbers: &[u16], counts: &[u16], strikes: &[u16], book: &mut [u8]) -> Outcome
+    ensures { λ r. ⌜ Write-says (now (numbers .entry)) (now (counts .entry)) (now (strikes .entry)) (outcome r) (now (book .entry)) (now (book .exit)) ⌝ }
+{
+    writer::write_book(numbers, counts, strikes, book)
+}
+
+// The answer is how many bytes a book with these counts of cards has (document 02, P1).
+pub fn book_size(counts: &[u16]) -> Answer
+    ensures { λ r. ⌜ Size-says (now (counts .entry)) (reply r) ⌝ }
+{
+    writer::book_size(counts)
 }

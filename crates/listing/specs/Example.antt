@@ -7,14 +7,15 @@ use Prim.Native.Nat.{ℕ, _+_, _≤_}
 use lib.Dec.{lit≤}
 use lib.ListN.{take, drop}
 use Rattle.algebra.specs.Linear.{computing}
+use Rattle.algebra.specs.Lists.{table}
 use Rattle.algebra.specs.Field.{power, minus}
 use Rattle.algebra.specs.Tests.{any-above}
 use Rattle.refusal.specs.Replies.{number, refused-with}
 use Rattle.refusal.specs.declared.Refusal.the-variants.{Range}
 use Rattle.rank.specs.Definitions.{at, is-card, difference, columns, subtract, pivot, cleared, rank-with, rank-from, rank, apart}
 use Rattle.coding.specs.Code.{inner, inner-sum, value, word-from, word, is-message, radius}
-use Rattle.book.specs.Layout.{big, big-four, tunes, part-of, body-good, symbols-from, card}
-use Rattle.book.specs.Open.{size-bad, numbers-good, numbers-bad, bodies-good, bodies-bad, open-refusal}
+use Rattle.book.specs.Layout.{big, big-four, tunes, tune-numbers, part-of, body-good, symbols-from, card}
+use Rattle.book.specs.Open.{size-bad, rising, numbers-bad, bodies-good, bodies-bad, open-refusal}
 use Rattle.rank.specs.Weight.{weight-of, no-weight}
 use Rattle.strike.specs.Strikes.{strike-of}
 use Rattle.book.specs.Reading.{no-value, reading}
@@ -122,7 +123,7 @@ unfolding body-text
 body-listed = ap (λ (l : List ℕ). l ++ ticks-line (total-delay body)) (lines body) ∙ rw (read-first, read-second, read-third, read-fourth, total) card-texts
 
 accepted : open-refusal example ≡ 0
-unfolding open-refusal size-bad numbers-bad numbers-good bodies-bad bodies-good big big-four
+unfolding open-refusal size-bad numbers-bad rising tune-numbers table bodies-bad bodies-good big big-four
 accepted = refl
 
 its-part : part-of example 0 ≡ body

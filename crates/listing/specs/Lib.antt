@@ -1,4 +1,4 @@
--- The listing of a tune book (SPECIFICATION 9). In reading order.
+-- The listing of a tune book (SPECIFICATION 9.1). In reading order.
 -- Definitions
 pub mod Listing
 -- How long the texts are

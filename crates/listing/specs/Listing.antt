@@ -1,4 +1,4 @@
--- The text that lists a tune book (SPECIFICATION 9), as the list of its bytes.
+-- The text that lists a tune book (SPECIFICATION 9.1), as the list of its bytes.
 -- Main: card-line, card-lines, tune-text, tune-texts, listing, longest.
 use mathlib.Core.Bool.{cond}
 use mathlib.Core.List.{List, [], _++_}

@@ -21,6 +21,8 @@ pub enum Refusal {
     NoSuchTune,
     // 9: no card of that number.
     NoSuchCard,
+    // 10: a number of a strike out of its range.
+    StrikeField,
 }
 
 // The answer of an operation that has nothing to say but that it is done.
@@ -49,6 +51,7 @@ pub fn number(r: Refusal) -> u32
         Refusal::Layout => 7,
         Refusal::NoSuchTune => 8,
         Refusal::NoSuchCard => 9,
+        Refusal::StrikeField => 10,
     }
 }
 

@@ -7,3 +7,4 @@ pub use input::Input;
 pub use input::read_book;
 pub use input::read_input;
 pub use output::print;
+pub use output::say;

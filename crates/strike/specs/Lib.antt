@@ -1,2 +1,5 @@
--- Strikes: what a message means, and the message of a strike.
+-- Strikes (SPECIFICATION 6). In reading order.
+-- What a message means
 pub mod Strikes
+-- Strikes as lists of numbers
+pub mod Turns

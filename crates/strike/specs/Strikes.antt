@@ -1,6 +1,7 @@
 -- What a message means, and the message of a strike (SPECIFICATION 6). Value 0 of a message is the bell, value 1 the force, values 2 and 3
 -- the delay.
--- Main: in-range, strike-of, strike-message, no-strike; strike-back, strike-message-back, message-good, strike-good, range-parts.
+-- Main: bell-most, force-most, delay-most, in-range, strike-of, strike-message, no-strike; strike-back, strike-message-back, message-good,
+-- strike-good, range-parts, parts-range.
 use mathlib.Core.Path.{_≡_, refl, sym, ap, _∙_}
 use mathlib.Core.Bool.{Bool, true, _&&_}
 use mathlib.Core.List.{List, [], _∷_}
@@ -15,9 +16,19 @@ use Rattle.rank.specs.Definitions.{at}
 use Rattle.coding.specs.Code.{is-message}
 use Rattle.strike.specs.declared.Strike.{Strike}
 
--- bell and force are at most 26, the delay at most 728 ticks
+-- the most that each number of a strike may be; the delay is in ticks
+abbrev pub bell-most : ℕ
+bell-most = 26
+
+abbrev pub force-most : ℕ
+force-most = 26
+
+abbrev pub delay-most : ℕ
+delay-most = 728
+
+-- none is more
 unfoldable pub in-range : Strike → Bool
-in-range s = leb (s .bell) 26 && (leb (s .force) 26 && leb (s .delay) 728)
+in-range s = leb (s .bell) bell-most && (leb (s .force) force-most && leb (s .delay) delay-most)
 
 -- the strike of a message
 unfoldable pub strike-of : (message : List ℕ) → Strike
@@ -32,12 +43,16 @@ abbrev pub no-strike : Strike
 no-strike = record { bell = 0; force = 0; delay = 0 }
 
 -- THE RANGES, part by part
-pub range-parts : (s : Strike) → in-range s ≡ true → (s .bell ≤ 26) × (s .force ≤ 26) × (s .delay ≤ 728)
+pub range-parts : (s : Strike) → in-range s ≡ true → (s .bell ≤ bell-most) × (s .force ≤ force-most) × (s .delay ≤ delay-most)
 unfolding in-range
 range-parts s e =
-    let (b, t) = both (leb (s .bell) 26) _ e in
-    let (f, d) = both (leb (s .force) 26) (leb (s .delay) 728) t in
-    (leb-true (s .bell) 26 b, leb-true (s .force) 26 f, leb-true (s .delay) 728 d)
+    let (b, t) = both (leb (s .bell) bell-most) _ e in
+    let (f, d) = both (leb (s .force) force-most) (leb (s .delay) delay-most) t in
+    (leb-true (s .bell) bell-most b, leb-true (s .force) force-most f, leb-true (s .delay) delay-most d)
+
+pub parts-range : (s : Strike) → s .bell ≤ bell-most → s .force ≤ force-most → s .delay ≤ delay-most → in-range s ≡ true
+unfolding in-range
+parts-range s b f d = rw (le-leb (s .bell) bell-most b, le-leb (s .force) force-most f, le-leb (s .delay) delay-most d)
 
 -- the values of a message
 pub value-below : (m : List ℕ) → is-message 2 m ≡ true → (i : ℕ) → i < 4 → at m i < 27
@@ -69,10 +84,10 @@ message-good s e =
     passes 4 26 (s .bell ∷ s .force ∷ (s .delay / 27) ∷ (s .delay % 27) ∷ []) refl (omega arith, (omega arith, (omega arith, (omega arith, tt))))
 
 pub strike-good : (m : List ℕ) → is-message 2 m ≡ true → in-range (strike-of m) ≡ true
-unfolding in-range strike-of
+unfolding strike-of
 strike-good m e =
     let b = value-below m e 0 (omega arith) in
     let f = value-below m e 1 (omega arith) in
     let h = value-below m e 2 (omega arith) in
     let l = value-below m e 3 (omega arith) in
-    rw (le-leb (at m 0) 26 (omega arith), le-leb (at m 1) 26 (omega arith), le-leb (27 * at m 2 + at m 3) 728 (omega arith))
+    parts-range (strike-of m) (omega arith) (omega arith) (omega arith)

@@ -1,9 +1,18 @@
-// A strike: what a card's message means, in both directions (SPECIFICATION 6). The only place where the layout of a message stands.
+// A strike: what a card's message means, in both directions, and strikes as lists of numbers (SPECIFICATION 6). The only place where the
+// layout of a message stands.
 ghost use mathlib.Core.Path.{_≡_};
 ghost use mathlib.Core.Bool.{true};
 ghost use lib.ListN.{take};
 ghost use Rattle.coding.specs.Code.{is-message};
 ghost use Rattle.strike.specs.Strikes.{in-range, no-strike, strike-of, strike-message};
+ghost use Rattle.strike.specs.Turns.{strikes-bad};
+
+// The most that each number of a strike may be.
+const BELL_MOST: u32 = 26;
+
+const FORCE_MOST: u32 = 26;
+
+const DELAY_MOST: u32 = 728;
 
 // A bell struck with a force, and the ticks until the next strike. Bell 0 is a rest.
 pub struct Strike {
@@ -27,13 +36,36 @@ pub fn no_strike() -> Strike
 pub fn in_range(s: Strike) -> bool
     ensures { λ r. ⌜ r ≡ in-range s ⌝ }
 {
-    if 26 < s.bell {
+    if BELL_MOST < s.bell {
         return false;
     }
-    if 26 < s.force {
+    if FORCE_MOST < s.force {
         return false;
     }
-    s.delay <= 728
+    s.delay <= DELAY_MOST
+}
+
+// Refusal 10: whether some number of a list is out of its range, taken as bell, force, delay by turns from the first. A list that ends
+// within a strike is tested too.
+pub fn strikes_bad(numbers: &[u16]) -> bool
+    ensures { λ r. ⌜ r ≡ strikes-bad (now (numbers .entry)) ⌝ }
+{
+    let mut most = BELL_MOST;
+    let mut next = FORCE_MOST;
+    let mut last = DELAY_MOST;
+    let mut i = 0;
+    while i < numbers.len() {
+        let number = numbers[i] as u32;
+        if most < number {
+            return true;
+        }
+        let tested = most;
+        most = next;
+        next = last;
+        last = tested;
+        i += 1;
+    }
+    false
 }
 
 // The strike of a message, its first four numbers.

@@ -1,13 +1,13 @@
 -- Bytes stored in a list that was lent, from a place on. What is written after what was written is one text.
--- Main: written-front; Wrote, wrote-none, wrote-byte, wrote-then, wrote-length; copying-start, copying-next, copying-end; room-then, pieces-room;
--- room-short, room-enough.
-use mathlib.Core.Path.{_≡_, sym, _∙_, ap}
-use mathlib.Core.List.{List, [], _∷_, _++_}
+-- Main: written-front; Wrote, wrote-none, wrote-byte, wrote-then, wrote-length, wrote-whole; copying-start, copying-next, copying-end; room-then,
+-- pieces-room; Partway, partway-start, partway-next, partway-room, partway-end; room-short, room-enough.
+use mathlib.Core.Path.{_≡_, refl, sym, _∙_, ap}
+use mathlib.Core.List.{List, [], _∷_, _++_, append-assoc, append-nil}
 use Prim.Native.Nat.{ℕ, zero, suc, _+_, _≤_, _<_}
 use native.Mathlib.Decide.{ℕ-discrete}
 use native.Mathlib.Numerals.{add-one}
 use native.Mathlib.Omega.{arith}
-use lib.ListN.{length, take, drop, getD, set, length-append}
+use lib.ListN.{length, take, drop, getD, set, length-append, drop-of-length-le}
 use lib.Seq.{take-all, take-append-seam, take-suc, sets, length-sets, sets-eq}
 use borrow.Author.Tests.{lt-ltb, le-ltb}
 use Rattle.refusal.specs.Replies.{number}
@@ -69,6 +69,12 @@ wrote-then {old} {a} {x} {mid} {b} {y} {new} {next} v w =
       after = omega (arith, v .after, w .after);
     }
 
+-- a text as long as the list is what the list holds then
+pub wrote-whole : {old x new : List ℕ} {next : ℕ} → Wrote old 0 x new next → length old ≡ length x → new ≡ x
+unfolding written
+wrote-whole {old} {x} w e =
+    w .text ∙ ap (λ (t : List ℕ). x ++ t) (drop-of-length-le old {i = 0 + length x} (omega arith)) ∙ append-nil x
+
 -- A WORD BYTE BY BYTE: its first i bytes were written
 pub record Copying (old : List ℕ) (a : ℕ) (word new : List ℕ) (i : ℕ) : Type 0 where
   pub within : i ≤ length word
@@ -112,6 +118,37 @@ module _ (first piece : ℕ → List ℕ) (step : (k : ℕ) → first (suc k) �
       → a + length (first m) ≤ length old → b + length (piece k) ≤ length new
   pieces-room {old} {a} k m w h r =
       room-then w (piece k) (rw (← step k) (omega (arith, pieces-rise (suc k) m h)))
+
+-- A TEXT PART BY PART: what was written so far and what is left are the whole
+pub record Partway (old : List ℕ) (a : ℕ) (whole left new : List ℕ) (next : ℕ) : Type 0 where
+  pub so-far : List ℕ
+  pub wrote : Wrote old a so-far new next
+  pub whole-is : so-far ++ left ≡ whole
+
+pub partway-start : (old : List ℕ) (a : ℕ) (whole : List ℕ) → a ≤ length old → Partway old a whole whole old a
+partway-start old a whole h = record { so-far = []; wrote = wrote-none old a h; whole-is = refl }
+
+module _ {old : List ℕ} {a : ℕ} {whole left new : List ℕ} {b : ℕ} (p : Partway old a whole left new b) where
+  -- the next part has room where the whole has
+  pub partway-room : (x y : List ℕ) → left ≡ x ++ y → a + length whole ≤ length old → b + length x ≤ length new
+  partway-room x y e h =
+      let l = length-append (p .so-far) left in
+      let m = length-append x y in
+      let n = ap length e in
+      let w = ap length (p .whole-is) in
+      omega (arith, p .wrote .after, wrote-length (p .wrote))
+
+  pub partway-next : (x y : List ℕ) {mid : List ℕ} {c : ℕ} → left ≡ x ++ y → Wrote new b x mid c → Partway old a whole y mid c
+  partway-next x y e w = record {
+    so-far = p .so-far ++ x;
+    wrote = wrote-then (p .wrote) w;
+    whole-is = append-assoc (p .so-far) x y ∙ ap (λ (t : List ℕ). p .so-far ++ t) (sym e) ∙ p .whole-is;
+  }
+
+  pub partway-end : left ≡ [] → Wrote old a whole new b
+  partway-end e =
+      let z : p .so-far ≡ whole = sym (append-nil (p .so-far)) ∙ ap (λ (t : List ℕ). p .so-far ++ t) (sym e) ∙ p .whole-is in
+      rw z at (p .wrote)
 
 -- THE LIST LENT is too short for the longest text, or long enough
 pub room-short : (n : ℕ) (t : List ℕ) → length t < n → room-refusal n t ≡ number Length

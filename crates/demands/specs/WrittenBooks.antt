@@ -1,0 +1,49 @@
+-- What is demanded of written books (document 02, P1), stated and proved: a book is read as it was written, and is written as it was read.
+-- To be read with Demands, with the definitions of strike/Turns, book/Pull, book/Reading, writer/Writing and writer/Holding, and with the records
+-- `Shows` (writer/Shown), `Held` (writer/Held) and `Again` (writer/Again).
+-- Main: Books-say, books-say.
+use mathlib.Core.Path.{_≡_, refl}
+use mathlib.Core.List.{List}
+use Prim.Native.Nat.{ℕ}
+use Rattle.refusal.specs.Replies.{Reply}
+use Rattle.book.specs.Layout.{card}
+use Rattle.book.specs.Open.{size-bad, numbers-bad, bodies-bad, open-refusal}
+use Rattle.book.specs.Pull.{pull-refusal, pulled}
+use Rattle.book.specs.Reading.{Card-value, reading}
+use Rattle.writer.specs.Writing.{book-bytes, book-length, lengths-good, write-refusal}
+use Rattle.writer.specs.Holding.{Bytes, Clean}
+use Rattle.writer.specs.Shown.{Shows, written-shows}
+use Rattle.writer.specs.Held.{Held, written-held, written-once}
+use Rattle.writer.specs.Again.{Again, written-again}
+use Rattle.demands.specs.Demands.{opening-refusal, Pull-says, reading-refusal, Read-says, writing-refusal}
+use Rattle.demands.specs.Settled.{pull-settled, read-settled}
+use Rattle.demands.specs.BookDemands.{pull-says, read-is}
+
+pub record Books-say : Type 0 where
+  -- THE WORDS in which the rest speaks are what Open, Pull, Read and Write answer
+  pub opening-is : (bs : List ℕ) → opening-refusal bs ≡ open-refusal bs
+  pub pulled-is : (bs : List ℕ) (t r : ℕ) (p : List ℕ) → Pull-says bs t r p → (r ≡ pull-refusal bs t) × (p ≡ pulled bs t)
+  pub reading-is : (b : List ℕ) (n : ℕ) (r : Reply Card-value) → Read-says b n r → r ≡ reading b n
+  pub writing-is : (ns cs ss : List ℕ) (room : ℕ) → writing-refusal ns cs ss room ≡ write-refusal ns cs ss room
+  -- WHAT IS WRITTEN is shown: Open accepts the book, and Pull and Read give back each strike in its place, with damage 0
+  pub shown : (ns cs ss : List ℕ) (room : ℕ) → writing-refusal ns cs ss room ≡ 0 → Shows ns cs ss (book-bytes ns cs ss)
+  -- and held: the book is bytes, all its cards are read with damage 0, and its strikes from the first to the last are those given
+  pub held : (ns cs ss : List ℕ) (room : ℕ) → writing-refusal ns cs ss room ≡ 0 → Held ss (book-bytes ns cs ss)
+  -- WHAT IS READ is written again: bytes that Open accepts and whose cards are all read, with damage 0, come out the same
+  pub again : (bs : List ℕ) → opening-refusal bs ≡ 0 → Bytes bs → Clean bs → Again bs
+  -- ONE BOOK is written from one triple of lists only
+  pub once : (ns cs ss ms ds ts : List ℕ) (room space : ℕ) → writing-refusal ns cs ss room ≡ 0 → writing-refusal ms ds ts space ≡ 0
+      → book-bytes ns cs ss ≡ book-bytes ms ds ts → (ns ≡ ms) × (cs ≡ ds) × (ss ≡ ts)
+
+pub books-say : Books-say
+unfolding Pull-says Read-says opening-refusal open-refusal size-bad numbers-bad bodies-bad writing-refusal write-refusal lengths-good book-length
+books-say = record {
+  opening-is = λ bs. refl;
+  pulled-is = λ bs t r p h. pull-settled bs t r (pull-refusal bs t) p (pulled bs t) (opening-refusal bs) h (pull-says bs t);
+  reading-is = λ b n r h. read-settled (card b n) r (reading b n) (reading-refusal b n) h (read-is b n);
+  writing-is = λ ns cs ss room. refl;
+  shown = written-shows;
+  held = written-held;
+  again = written-again;
+  once = written-once;
+}
