@@ -1,6 +1,6 @@
 -- Cards where they lie, and what is read of them, in the terms of the code.
--- Main: twelve-bytes, card-part, card-range, card-lost, card-strike, found-none, found-near, found-strike, card-passes, read-bad, read-past,
--- read-there, card-there, there-card, decoded-message.
+-- Main: big-drop, twelve-bytes, card-part, card-range, card-lost, card-strike, found-none, found-near, found-strike, card-passes, read-bad,
+-- read-past, read-there, card-there, there-card, decoded-message.
 use mathlib.Core.Path.{_≡_, sym, _∙_, ap}
 use mathlib.Core.Bool.{Bool, true, false, not}
 use mathlib.Core.List.{List, [], _∷_}
@@ -27,7 +27,7 @@ use Rattle.book.specs.Layout.{big, body-good, symbols-from, card}
 use Rattle.book.specs.Reading.{Card-value, no-value, card-refusal, value-of-card, card-reading, cards-in, no-card, read-refusal, reading}
 
 -- TWELVE BYTES
-big-drop : (a : ℕ) (l : List ℕ) (i : ℕ) → big (drop a l) i ≡ big l (a + i)
+pub big-drop : (a : ℕ) (l : List ℕ) (i : ℕ) → big (drop a l) i ≡ big l (a + i)
 unfolding big
 big-drop a l i = let e : a + suc i ≡ suc (a + i) = omega arith in rw (getD-drop a l i 0, getD-drop a l (suc i) 0, e)
 

@@ -23,7 +23,7 @@ fn print_book(text: &[u8], book: &[u8])
 fn say_line(text: &[u8], line: &[u8])
     requires { ⌜ now line ≡ said (now text) ⌝ }
 {
-    streams::say(line);
+    io::write_all(libc::STDERR_FILENO, line);
 }
 
 // Presses a text. The lists are lent for what is read of it, for its book and for its line. Of no bytes nothing is written.

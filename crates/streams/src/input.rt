@@ -4,7 +4,6 @@ ghost use Prim.Native.Nat.{_≤_, _<_};
 ghost use lib.ListN.{length};
 ghost use Rattle.book.specs.Layout.{longest-book};
 ghost use Rattle.streams.specs.Inputs.{Within, Reaches};
-use crate::output::say;
 
 // What came of reading: how many bytes were put at the start of a buffer, or a failure, which was said.
 pub enum Input {
@@ -79,7 +78,7 @@ pub fn read_input(usage: &[u8], buffer: &mut [u8]) -> Input
         return read_all(libc::STDIN_FILENO, buffer);
     }
     if 2 < count {
-        say(usage);
+        io::write_all(libc::STDERR_FILENO, usage);
         return Input::Failed;
     }
     read_named(buffer)

@@ -7,4 +7,3 @@ pub use input::Input;
 pub use input::read_book;
 pub use input::read_input;
 pub use output::print;
-pub use output::say;

@@ -36,8 +36,3 @@ pub fn print(text: &[u8]) -> usize
     }
     at
 }
-
-// Says a line on standard error. If that cannot be written, there is nowhere to say so.
-pub fn say(line: &[u8]) {
-    io::write_all(libc::STDERR_FILENO, line);
-}

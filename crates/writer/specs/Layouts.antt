@@ -9,13 +9,14 @@ use Prim.Native.Nat.{ℕ, zero, suc, _+_, _*_, _/_, _%_, _≤_, _<_}
 use native.Mathlib.Numerals.{add-one}
 use native.Mathlib.Omega.{arith}
 use lib.ListN.{length, getD, take, drop, length-append, length-drop, drop-of-length-le}
-use lib.Seq.{drop-cons, drop-nil, take-nil, drop-drop, getD-drop, take-append-add, drop-append-add}
+use lib.Seq.{drop-cons, drop-nil, take-nil, drop-drop, take-append-add, drop-append-add}
 use Rattle.algebra.specs.Lists.{cons, all-at, all-drop}
 use Rattle.coding.specs.Code.{word, word-from}
 use Rattle.strike.specs.declared.Strike.{Strike}
 use Rattle.strike.specs.Strikes.{strike-message}
 use Rattle.strike.specs.Turns.{strikes, length-strikes}
 use Rattle.book.specs.Layout.{big, big-four, two-bytes, four-bytes, contents-end, tune-number, offset, cards, entry-bytes, symbols-from, symbols-bytes}
+use Rattle.book.specs.CardReading.{big-drop}
 use Rattle.writer.specs.Writing.{all-cards, card-bytes, cards-bytes, entries-bytes, contents-bytes, book-bytes, book-length}
 use Rattle.writer.specs.Holding.{Bytes}
 
@@ -124,10 +125,7 @@ cards-append (s ∷ ss) ts =
 -- READ BACK: a number, an entry, symbols, a card, from where their bytes stand
 module _ (l r : List ℕ) (i : ℕ) (stands : drop i l ≡ r) where
   big-there : (j k : ℕ) → i + j ≡ k → big l k ≡ big r j
-  unfolding big
-  big-there j k e =
-      let z : suc (i + j) ≡ i + suc j = omega arith in
-      rw (← stands, ← e, z, getD-drop i l j 0, getD-drop i l (suc j) 0)
+  big-there j k e = rw (← stands, ← e) (sym (big-drop i l j))
 
   four-there : (j k : ℕ) → i + j ≡ k → big-four l k ≡ big-four r j
   unfolding big-four
