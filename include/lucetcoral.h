@@ -35,7 +35,7 @@ extern "C" {
 /* The version of this interface. As long as MAJOR is 0, MINOR is raised by every change of what a call takes, answers or refuses and of every
    name or number below, PATCH by all other changes. The archive holds no version of its own. */
 #define LUCETCORAL_VERSION_MAJOR 0
-#define LUCETCORAL_VERSION_MINOR 2
+#define LUCETCORAL_VERSION_MINOR 3
 #define LUCETCORAL_VERSION_PATCH 0
 
 /* What a function returns (section 7). */
@@ -111,7 +111,7 @@ uint32_t lucetcoral_read_card(const uint8_t *body, size_t body_len, uint32_t num
 /* Length (8.10): the sum of the delays of all cards of a body that can be read, in ticks. 2. */
 uint32_t lucetcoral_total_delay(const uint8_t *body, size_t body_len, uint32_t *ticks);
 
-/* Worn (8.11): the number of a card of a body that Read refuses or gives a damage of 1 or more, any such card; 0 exactly if there is none. 2. */
+/* Worn (8.11): the lowest number of a card of a body that Read refuses or gives a damage of 1 or more; 0 exactly if there is none. 2. */
 uint32_t lucetcoral_damaged_card(const uint8_t *body, size_t body_len, uint32_t *card);
 
 /* Listing (8.12): the text that lists a book, as the program list_book prints it ("book refused N" for a book that Open refuses), at the start of

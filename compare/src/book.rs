@@ -72,16 +72,16 @@ pub fn total_delay(body: &[u8]) -> Result<u32, Refusal> {
     Ok(strikes.flatten().map(|strike| strike.delay).sum())
 }
 
-/// The numbers of all cards that `read_card` refuses or finds damaged: "Worn"
-/// may give any of them, or says "none".
-pub fn damaged_cards(body: &[u8]) -> Result<Vec<u32>, Refusal> {
+/// The lowest number of a card that `read_card` refuses or finds damaged, if
+/// there is such a card ("Worn").
+pub fn damaged_card(body: &[u8]) -> Result<Option<u32>, Refusal> {
     let cards = cards(body)?;
     let worn = |card: &Card| strike(card).map_or(true, |strike| strike.damage > 0);
     let numbered = (1..).zip(&cards);
     Ok(numbered
         .filter(|(_, card)| worn(card))
         .map(|(number, _)| number)
-        .collect())
+        .min())
 }
 
 /// The listing of a book, for a lent text of `text_len` bytes.

@@ -127,28 +127,24 @@ impl Call {
         }
     }
 
-    /// All outcomes that the reference accepts. There is one, save that any
-    /// damaged card may be named.
-    pub fn accepted(&self) -> Vec<Outcome> {
-        match self.answers() {
-            Ok(answers) => answers
-                .into_iter()
-                .map(|(numbers, lists)| Outcome {
-                    status: 0,
-                    numbers,
-                    lists,
-                })
-                .collect(),
-            Err(refusal) => vec![Outcome {
+    /// What the reference says.
+    pub fn expected(&self) -> Outcome {
+        match self.answer() {
+            Ok((numbers, lists)) => Outcome {
+                status: 0,
+                numbers,
+                lists,
+            },
+            Err(refusal) => Outcome {
                 status: refusal.number(),
                 numbers: vec![],
                 lists: self.lists_to_fill(),
-            }],
+            },
         }
     }
 
-    fn answers(&self) -> Result<Vec<Answer>, Refusal> {
-        let answer = match self {
+    fn answer(&self) -> Result<Answer, Refusal> {
+        Ok(match self {
             Call::Encode { k, message, word } => {
                 let word = code::encode(*k, message, word.len())?;
                 (vec![], vec![word.to_vec()])
@@ -182,7 +178,7 @@ impl Call {
                 (vec![s.bell, s.force, s.delay, s.damage], vec![])
             }
             Call::TotalDelay { body } => (vec![book::total_delay(body)?], vec![]),
-            Call::DamagedCard { body } => return damaged_answers(body),
+            Call::DamagedCard { body } => (vec![book::damaged_card(body)?.unwrap_or(0)], vec![]),
             Call::TuneAt { place, book } => (book::tune_at(book, *place)?.to_vec(), vec![]),
             Call::WriteBook {
                 numbers,
@@ -194,8 +190,7 @@ impl Call {
                 (vec![], vec![wide(&book)])
             }
             Call::BookSize { counts } => (vec![writer::book_size(counts)? as u32], vec![]),
-        };
-        Ok(vec![answer])
+        })
     }
 
     fn lists_to_fill(&self) -> Vec<Vec<u16>> {
@@ -305,17 +300,17 @@ impl Call {
     /// Panics, with the call, if the implementation and the reference
     /// disagree.
     pub fn check<L: Library>(&self) {
-        self.expect::<L>(&self.accepted());
+        self.expect::<L>(&self.expected());
     }
 
     /// As `check`, where the outcome is known.
-    pub fn expect<L: Library>(&self, accepted: &[Outcome]) {
+    pub fn expect<L: Library>(&self, expected: &Outcome) {
         let outcome = self.run::<L>();
         assert!(
-            accepted.contains(&outcome),
+            outcome == *expected,
             "{self:?}\ngives    {}\nexpected {}",
             outcome.line(),
-            accepted[0].line()
+            expected.line()
         );
     }
 }
@@ -336,15 +331,6 @@ fn wide<T: Copy + Into<U>, U>(list: &[T]) -> Vec<U> {
 fn decimal(numbers: Vec<u32>) -> String {
     let words: Vec<String> = numbers.iter().map(u32::to_string).collect();
     words.join(" ")
-}
-
-/// Any damaged card, or 0 if there is none.
-fn damaged_answers(body: &[u8]) -> Result<Vec<Answer>, Refusal> {
-    let mut cards = book::damaged_cards(body)?;
-    if cards.is_empty() {
-        cards.push(0);
-    }
-    Ok(cards.into_iter().map(|card| (vec![card], vec![])).collect())
 }
 
 /// The outcome of an implementation. Numbers that a refusal left alone are

@@ -1,6 +1,5 @@
 //! Some hundreds of calls, for a program that reads them as lines (see
-//! `call`): the paper's cases, edges, and random inputs. The lists are short,
-//! and each call has one accepted outcome.
+//! `call`): the paper's cases, edges, and random inputs. The lists are short.
 
 use crate::call::Call;
 use crate::code::Card;
@@ -277,6 +276,11 @@ fn body_calls(random: &mut Random) -> Vec<Call> {
         let body = samples::body(&cards);
         calls.extend([1 + place as u32, 1, 4].map(|number| read_card(&body, number)));
         calls.extend([total_delay(&body), damaged_card(&body)]);
+    }
+    // A mended card and a refused one, either before the other.
+    let [whole, mended, refused] = [1, 2, 729].map(|first| [first, 3, 9, 27, 81, 243]);
+    for cards in [[whole, mended, refused], [whole, refused, mended]] {
+        calls.push(damaged_card(&samples::body(&cards)));
     }
     let body = samples::body(&words(random, 3));
     for len in [0, 1, 11, 12, 13, 24, 35] {

@@ -787,13 +787,7 @@ fn check_calls(calls: &[Call]) {
     let printed = String::from_utf8_lossy(&output.stdout);
     assert_eq!(printed.lines().count(), calls.len());
     for (call, line) in calls.iter().zip(printed.lines()) {
-        let accepted = call.accepted();
-        assert!(
-            accepted.iter().any(|outcome| outcome.line() == line),
-            "{}\ngives    {line}\nexpected {}",
-            call.line(),
-            accepted[0].line()
-        );
+        assert_eq!(line, call.expected().line(), "{}", call.line());
     }
 }
 
@@ -812,7 +806,7 @@ fn other_calls() {
     for seed in [2, 3] {
         check_calls(&vectors::calls(seed));
     }
-    // Bodies of which any of several cards may be named as damaged.
+    // Bodies with several damaged cards.
     let random = &mut Random::new(3);
     let cards = some_cards(random);
     let call = |_| Call::DamagedCard {

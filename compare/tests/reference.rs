@@ -124,7 +124,8 @@ fn listing_case() {
     assert_eq!(book::listing(&bytes), text);
 
     let body = &bytes[book::tune_body(&bytes, 7).unwrap()];
-    assert_eq!(book::damaged_cards(body), Ok(vec![3, 4]));
+    assert_eq!(book::damaged_card(body), Ok(Some(3)));
+    assert_eq!(book::damaged_card(&body[..24]), Ok(None));
     assert_eq!(book::read_card(body, 0), Err(Refusal::NoSuchCard));
     assert_eq!(book::read_card(body, 5), Err(Refusal::NoSuchCard));
     assert_eq!(book::tune_body(&bytes, 8), Err(Refusal::NoSuchTune));

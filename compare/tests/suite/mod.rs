@@ -197,7 +197,7 @@ pub fn decode_known<L: Library>() {
                 numbers: vec![damage],
                 lists: vec![sent.word.to_vec(), sent.message],
             };
-            decode_call(&mut random, k, sent.received.to_vec()).expect::<L>(&[known]);
+            decode_call(&mut random, k, sent.received.to_vec()).expect::<L>(&known);
         }
     }
 }
@@ -443,6 +443,39 @@ pub fn bodies<L: Library>() {
         let mut body = body_of(&mut random, &all, 10);
         body.truncate(len);
         check_body::<L>(body);
+    }
+}
+
+/// Cards of a kind each: whole, damaged with rank 1 and with rank 2, too far
+/// from every word, and with a symbol out of range.
+fn kinds(random: &mut Random) -> [Card; 5] {
+    let [whole, one, two] = [0, 1, 2].map(|damage| samples::sent(random, 2, damage).received);
+    let (mut far, mut outside) = (whole, whole);
+    while code::decode(2, &far, 6, 4).is_ok() {
+        far = samples::damaged(random, &whole, 3);
+    }
+    outside[random.below(6) as usize] = 729;
+    [whole, one, two, far, outside]
+}
+
+/// Bodies of four cards, of all kinds in every order: the first that is not
+/// whole is given, whatever its kind.
+pub fn first_damaged<L: Library>() {
+    let mut random = Random::new(1_050);
+    for order in 0..5_usize.pow(4) {
+        let kind = |place| order / 5_usize.pow(place) % 5;
+        let kinds = kinds(&mut random);
+        let cards = [0, 1, 2, 3].map(|place| kinds[kind(place)]);
+        let first = (0..4).find(|place| kind(*place) > 0);
+        let known = Outcome {
+            status: 0,
+            numbers: vec![first.map_or(0, |place| place + 1)],
+            lists: vec![],
+        };
+        let body = samples::body(&cards);
+        let call = Call::DamagedCard { body };
+        assert_eq!(call.expected(), known, "{call:?}");
+        call.expect::<L>(&known);
     }
 }
 
@@ -694,6 +727,11 @@ macro_rules! suite {
         #[test]
         fn bodies() {
             suite::bodies::<$library>();
+        }
+
+        #[test]
+        fn first_damaged() {
+            suite::first_damaged::<$library>();
         }
 
         #[test]

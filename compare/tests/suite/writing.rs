@@ -93,9 +93,9 @@ pub fn faults<L: Library>() {
         let status = first.map_or(0, |(_, refusal)| *refusal);
         for _ in 0..150 {
             let call = faulty_call(&mut random, has);
-            let accepted = call.accepted();
-            assert_eq!(accepted[0].status, status, "{call:?}");
-            call.expect::<L>(&accepted);
+            let expected = call.expected();
+            assert_eq!(expected.status, status, "{call:?}");
+            call.expect::<L>(&expected);
         }
     }
 }

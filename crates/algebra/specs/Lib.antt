@@ -4,6 +4,7 @@ pub mod Field
 -- Lists and computed tests
 pub mod Lists
 pub mod Tests
+pub mod Search
 -- A symbol as six digits modulo 3: sums, combinations, spans, linear functions
 pub mod Mod3
 pub mod Digits

@@ -1,11 +1,11 @@
 -- What Length and Worn say of a body (SPECIFICATION 8.10 and 8.11).
--- Main: body-refusal, total-delay, is-damaged, worn-reply, Worn-answers.
-use mathlib.Core.Path.{_≡_}
-use mathlib.Core.Bool.{Bool, true, false, _||_, not, cond}
+-- Main: body-refusal, total-delay, is-damaged, first-damaged, worn-reply.
+use mathlib.Core.Bool.{Bool, _||_, not, cond}
 use mathlib.Core.List.{List}
 use mathlib.Core.Option.{Option, none, some}
-use Prim.Native.Nat.{ℕ, zero, suc, _+_, _≤_}
+use Prim.Native.Nat.{ℕ, zero, suc, _+_}
 use lib.Dec.{eqb}
+use Rattle.algebra.specs.Search.{first-from}
 use Rattle.refusal.specs.Replies.{number, Reply, replied, refused-with}
 use Rattle.refusal.specs.declared.Refusal.the-variants.{Length}
 use Rattle.book.specs.declared.bodies.Worn.{Worn}
@@ -33,19 +33,12 @@ flawed r = not (eqb (r .refusal) 0) || not (eqb (r .value .damage .rank) 0)
 unfoldable pub is-damaged : (body : List ℕ) → (n : ℕ) → Bool
 is-damaged bs n = flawed (reading bs n)
 
+-- the first of all cards that is damaged, if any
+unfoldable pub first-damaged : (body : List ℕ) → Option ℕ
+first-damaged bs = first-from (cards-in bs) 1 (is-damaged bs)
+
 -- what an answer says: the number of a card, or none
 abbrev pub worn-reply : Worn → Reply (Option ℕ)
 worn-reply (Card n) = replied (some n)
 worn-reply Nothing = replied none
 worn-reply (Refused r) = refused-with none (number r)
-
--- the number of a card that is damaged, any such card; "none" exactly if there is none
-unfoldable pub Named : (body : List ℕ) → Option ℕ → Type 0
-Named bs none = (n : ℕ) → 1 ≤ n → n ≤ cards-in bs → is-damaged bs n ≡ false
-Named bs (some n) = (1 ≤ n) × (n ≤ cards-in bs) × (is-damaged bs n ≡ true)
-
--- the card number is left free, and named by what holds of it; all else is fixed
-pub record Worn-answers (bs : List ℕ) (r : Reply (Option ℕ)) : Type 0 where
-  pub refusal : r .refusal ≡ body-refusal bs
-  pub refused : body-good bs ≡ false → r .value ≡ none
-  pub named : body-good bs ≡ true → Named bs (r .value)

@@ -1,9 +1,10 @@
 -- The tests and the search of the contents from entry e on, in the terms of a loop that counts entries.
--- Main: rising-next, numbers-count, counts-count, number-at, count-at, numbers-next, bodies-next, entry-next, and the laws for the start and the
--- end beside them.
+-- Main: rising-next, numbers-count, counts-count, number-at, count-at, numbers-next, bodies-next, and the laws for the start and the end beside
+-- them; entry-first, entry-none.
 use mathlib.Core.Path.{_≡_, refl}
-use mathlib.Core.Bool.{Bool, true, _&&_, not, cond}
+use mathlib.Core.Bool.{Bool, true, _&&_, not}
 use mathlib.Core.List.{List}
+use mathlib.Core.Logic.{_↔_}
 use mathlib.Core.Option.{Option, none, some}
 use Prim.Native.Nat.{ℕ, suc, _+_, _*_, _-_, _≤_, _<_}
 use native.Mathlib.Omega.{arith}
@@ -13,11 +14,12 @@ use lib.Dec.{leb, eqb}
 use lib.ListN.{length, getD, drop, drop-of-length-le}
 use lib.Seq.{drop-cons}
 use Rattle.algebra.specs.Lists.{length-table, at-table}
+use Rattle.algebra.specs.Search.{First, None-in, first-some, first-none}
 use Rattle.book.specs.declared.pull.Place.{Place}
 use Rattle.book.specs.declared.pull.Place.the-variants.{At, Nowhere}
 use Rattle.book.specs.Layout.{tunes, contents-end, tune-number, offset, cards, tune-numbers, card-counts}
 use Rattle.book.specs.Open.{rising, bodies-good, numbers-bad, bodies-bad}
-use Rattle.book.specs.Pull.{entry-from, entry-of}
+use Rattle.book.specs.Pull.{bears, entry-of}
 
 -- what is left of n entries: one more than after the next, and none at the end
 left-next : (n e : ℕ) → e < n → n - e ≡ suc (n - suc e)
@@ -93,17 +95,11 @@ abbrev pub place-of : Place → Option ℕ
 place-of (At e) = some e
 place-of Nowhere = none
 
-unfoldable pub entry-on : List ℕ → (e tune : ℕ) → Option ℕ
-entry-on bs e t = entry-from (tunes bs - e) e t bs
+-- the entry is the first that bears the number, and there is none exactly if none bears it
+pub entry-first : (bs : List ℕ) (t e : ℕ) → (entry-of bs t ≡ some e) ↔ First (bears bs t) 0 (tunes bs) e
+unfolding entry-of
+entry-first bs t e = first-some (bears bs t) (tunes bs) 0 (tunes bs) (omega arith) e
 
-pub entry-start : (bs : List ℕ) (t : ℕ) → entry-of bs t ≡ entry-on bs 0 t
-unfolding entry-on entry-of
-entry-start bs t = rw sub-zero
-
-pub entry-next : (bs : List ℕ) (e t : ℕ) → e < tunes bs → entry-on bs e t ≡ cond (eqb (tune-number bs e) t) (some e) (entry-on bs (e + 1) t)
-unfolding entry-on entry-from
-entry-next bs e t h = rw (left-next (tunes bs) e h, add-one e)
-
-pub entry-end : (bs : List ℕ) (e t : ℕ) → tunes bs ≤ e → entry-on bs e t ≡ none
-unfolding entry-on entry-from
-entry-end bs e t h = rw (left-end (tunes bs) e h)
+pub entry-none : (bs : List ℕ) (t : ℕ) → (entry-of bs t ≡ none) ↔ None-in (bears bs t) 0 (tunes bs)
+unfolding entry-of
+entry-none bs t = first-none (bears bs t) (tunes bs) 0 (tunes bs) (omega arith)

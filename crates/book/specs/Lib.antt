@@ -15,4 +15,5 @@ pub mod Pulled
 pub mod CardReading
 pub mod Bounds
 pub mod CardLoops
+pub mod Damaged
 pub mod ReadBack

@@ -1,23 +1,23 @@
 -- What Pull refuses and gives back (document 01: Pull).
 -- Main: pull-refusal, place-at, pulled, pulled-from.
-use mathlib.Core.Bool.{cond}
+use mathlib.Core.Bool.{Bool, cond}
 use mathlib.Core.List.{List, []}
 use mathlib.Core.Option.{Option, none, some}
-use Prim.Native.Nat.{ℕ, zero, suc}
+use Prim.Native.Nat.{ℕ}
 use lib.Dec.{eqb}
+use Rattle.algebra.specs.Search.{first-from}
 use Rattle.refusal.specs.Replies.{number}
 use Rattle.refusal.specs.declared.Refusal.the-variants.{NoSuchTune}
 use Rattle.book.specs.Layout.{tunes, tune-number, offset, part-of}
 use Rattle.book.specs.Open.{open-refusal}
 
--- the first entry from e on that bears the tune number, if any
-unfoldable pub entry-from : (left e : ℕ) → (tune : ℕ) → List ℕ → Option ℕ
-entry-from zero e t bs = none
-entry-from (suc k) e t bs = cond (eqb (tune-number bs e) t) (some e) (entry-from k (suc e) t bs)
+-- whether entry e bears the tune number
+unfoldable pub bears : List ℕ → (tune e : ℕ) → Bool
+bears bs t e = eqb (tune-number bs e) t
 
--- the entry of the contents that bears the tune number, if any
+-- the first entry of the contents that bears the tune number, if any
 unfoldable pub entry-of : List ℕ → (tune : ℕ) → Option ℕ
-entry-of bs t = entry-from (tunes bs) 0 t bs
+entry-of bs t = first-from (tunes bs) 0 (bears bs t)
 
 -- 8 if no entry has the number
 abbrev pub missing : Option ℕ → ℕ

@@ -1,21 +1,20 @@
 -- Pull leads to each tune of an accepted book, and to nothing else.
 -- Main: pulls-each, There, pulls-only, refused-empty, empty-refused, refused-from, pulled-good.
 use mathlib.Core.Path.{_≡_, refl, sym, _∙_, ap}
-use mathlib.Core.Bool.{Bool, true, false, cond}
+use mathlib.Core.Bool.{true}
 use mathlib.Core.List.{List, []}
 use mathlib.Core.Option.{Option, none, some}
-use Prim.Native.Nat.{ℕ, zero, suc, _+_, _<_}
+use Prim.Native.Nat.{ℕ, _<_}
 use native.Mathlib.Decide.{ℕ-discrete}
 use native.Mathlib.Omega.{arith}
-use lib.Dec.{eqb}
 use lib.ListN.{length}
 use borrow.Author.Tests.{eqb-true, eq-eqb, ne-eqb}
 use Rattle.refusal.specs.Replies.{number}
 use Rattle.refusal.specs.declared.Refusal.the-variants.{NoSuchTune}
 use Rattle.book.specs.Layout.{tunes, tune-number, offset, part-of, body-good}
 use Rattle.book.specs.Open.{open-refusal}
-use Rattle.book.specs.Pull.{entry-from, entry-of, missing, place-at, part-at, pull-refusal, pulled, offset-at, pulled-from}
-use Rattle.book.specs.ContentsLoops.{entry-on, entry-start, entry-next}
+use Rattle.book.specs.Pull.{bears, entry-of, missing, place-at, part-at, pull-refusal, pulled, offset-at, pulled-from}
+use Rattle.book.specs.ContentsLoops.{entry-first}
 use Rattle.book.specs.Accepted.{Accepted, Accepted-entry, numbers-rise, part-some, part-good}
 
 -- AS OPEN, THEN BY THE ENTRY
@@ -44,31 +43,21 @@ unfolding pulled
 pulled-refused bs t n = rw (ne-eqb (open-refusal bs) 0 n)
 
 -- THE ENTRY. One that is found bears the number
-found-from : (left i t e : ℕ) (bs : List ℕ) → entry-from left i t bs ≡ some e → (e < i + left) × (tune-number bs e ≡ t)
-unfolding entry-from
-found-from zero i t e bs p = let z : _≡_ {A = ℕ} 0 1 = cc in absurd (omega arith)
-found-from (suc left) i t e bs p = go (eqb (tune-number bs i) t) refl p (found-from left (suc i) t e bs)
-  where
-    go : (b : Bool) → eqb (tune-number bs i) t ≡ b → cond b (some i) (entry-from left (suc i) t bs) ≡ some e
-        → (entry-from left (suc i) t bs ≡ some e → (e < suc i + left) × (tune-number bs e ≡ t)) → (e < i + suc left) × (tune-number bs e ≡ t)
-    go true q p f = let z : i ≡ e = cc in (omega arith, rw (← z) (eqb-true (tune-number bs i) t q))
-    go false q p f = (omega (arith, f p .0), f p .1)
-
 pub entry-found : (bs : List ℕ) (t e : ℕ) → entry-of bs t ≡ some e → (e < tunes bs) × (tune-number bs e ≡ t)
-unfolding entry-of
-entry-found bs t e p = let f = found-from (tunes bs) 0 t e bs p in (omega (arith, f .0), f .1)
+unfolding bears
+entry-found bs t e p = let f = entry-first bs t e .0 p in (f .high, eqb-true (tune-number bs e) t (f .passes))
 
 -- one that bears the number is found: no other has it
-reached : (bs : List ℕ) → Accepted bs → (d i e : ℕ) → i + d ≡ e → e < tunes bs → entry-on bs i (tune-number bs e) ≡ some e
-reached bs a zero i e p h =
-    let q : i ≡ e = omega arith in
-    rw (q, entry-next bs e (tune-number bs e) h, eq-eqb (tune-number bs e) (tune-number bs e) refl)
-reached bs a (suc d) i e p h =
-    rw (entry-next bs i (tune-number bs e) (omega arith), ne-eqb (tune-number bs i) (tune-number bs e) (λ q. omega (arith, numbers-rise bs a i e (omega arith) h)))
-    (reached bs a d (i + 1) e (omega arith) h)
-
 pub entry-there : (bs : List ℕ) → Accepted bs → (e : ℕ) → e < tunes bs → entry-of bs (tune-number bs e) ≡ some e
-entry-there bs a e h = entry-start bs (tune-number bs e) ∙ reached bs a e 0 e (omega arith) h
+unfolding bears
+entry-there bs a e h =
+    let t = tune-number bs e in
+    entry-first bs t e .1 (record {
+      low = omega arith;
+      high = h;
+      passes = eq-eqb t t refl;
+      before = λ i l b. ne-eqb (tune-number bs i) t (λ q. omega (arith, numbers-rise bs a i e b h));
+    })
 
 -- EACH TUNE, AND NOTHING ELSE
 pub pulls-each : (bs : List ℕ) → Accepted bs → (e : ℕ) → e < tunes bs

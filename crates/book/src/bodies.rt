@@ -1,10 +1,11 @@
 // Length and Worn: what is said of a whole body.
 ghost use mathlib.Core.Path.{_≡_};
 ghost use mathlib.Core.Bool.{true};
-ghost use Rattle.refusal.specs.Replies.{reply, reply-with};
+ghost use mathlib.Core.Option.{none};
+ghost use Rattle.refusal.specs.Replies.{reply, replied, reply-with};
 ghost use Rattle.book.specs.Layout.{body-good};
 ghost use Rattle.book.specs.Reading.{read-reply};
-ghost use Rattle.book.specs.Bodies.{body-refusal, total-delay, flawed, worn-reply, Worn-answers};
+ghost use Rattle.book.specs.Bodies.{body-refusal, total-delay, flawed, first-damaged, worn-reply};
 use crate::reading::Reading;
 use crate::reading::body_good;
 use crate::reading::read_card;
@@ -63,27 +64,27 @@ fn damaged(read: Reading) -> bool
     }
 }
 
-// A damaged card, or that there is none.
+// The first damaged card, or that there is none.
 fn find_damaged(body: &[u8]) -> Worn
     requires { ⌜ body-good (now body) ≡ true ⌝ }
-    ensures { λ r. ⌜ Worn-answers (now (body .entry)) (worn-reply r) ⌝ }
+    ensures { λ r. ⌜ worn-reply r ≡ replied (first-damaged (now (body .entry))) ⌝ }
 {
     let count = (body.len() / 12) as u32;
-    let mut n = 1;
+    let mut number = 1;
     loop {
-        if count < n {
+        if count < number {
             break Worn::Nothing;
         }
-        if damaged(read_card(body, n)) {
-            break Worn::Card(n);
+        if damaged(read_card(body, number)) {
+            break Worn::Card(number);
         }
-        n += 1;
+        number += 1;
     }
 }
 
-// The number of a damaged card or none, or refusal 2 (document 01: Worn).
+// The number of the first damaged card or none, or refusal 2 (document 01: Worn).
 pub fn damaged_card(body: &[u8]) -> Worn
-    ensures { λ r. ⌜ Worn-answers (now (body .entry)) (worn-reply r) ⌝ }
+    ensures { λ r. ⌜ worn-reply r ≡ reply-with none (body-refusal (now (body .entry))) (first-damaged (now (body .entry))) ⌝ }
 {
     if !body_good(body) {
         return Worn::Refused(Refusal::Length);

@@ -1,7 +1,6 @@
 -- What the functions of the C interface promise: the refusal's number, and what is in each list and number lent afterwards.
--- Main: Gives, Encodes, Tests, Decodes, Pulls, Lists, Reads, Names, Writes, Fills.
+-- Main: Gives, Encodes, Tests, Decodes, Pulls, Lists, Reads, card-number, Writes, Fills.
 use mathlib.Core.Path.{_≡_}
-use mathlib.Core.Bool.{true, false}
 use mathlib.Core.List.{List}
 use mathlib.Core.Option.{Option, none, some}
 use Prim.Native.Nat.{ℕ}
@@ -12,11 +11,9 @@ use Rattle.coding.specs.Decode.{decode}
 use Rattle.coding.specs.Mu.{mu}
 use Rattle.codec.specs.Operations.{encode-refusal, syndrome-refusal}
 use Rattle.decoder.specs.Decoding.{decode-refusal, decoded-word, or-empty, damage}
-use Rattle.book.specs.Layout.{body-good}
 use Rattle.book.specs.Pull.{pull-refusal, pulled, pulled-from}
 use Rattle.book.specs.Entries.{tune-at}
 use Rattle.book.specs.Reading.{reading}
-use Rattle.book.specs.Bodies.{body-refusal, Named}
 use Rattle.text.specs.Text.{written, room-refusal}
 use Rattle.listing.specs.Listing.{listing, longest}
 use Rattle.writer.specs.Writing.{book-bytes, write-refusal}
@@ -65,12 +62,6 @@ pub record Reads (bs : List ℕ) (n b f d x r b-now f-now d-now x-now : ℕ) : T
 unfoldable pub card-number : Option ℕ → ℕ
 card-number none = 0
 card-number (some n) = n
-
--- the card number is free, as in Worn itself; all else is fixed
-pub record Names (bs : List ℕ) (n r n-now : ℕ) : Type 0 where
-  pub answers : r ≡ body-refusal bs
-  pub refused : body-good bs ≡ false → n-now ≡ n
-  pub named : body-good bs ≡ true → (c : Option ℕ) × (n-now ≡ card-number c) × Named bs c
 
 -- the listing at the start of the text, and its length
 pub record Writes (bs text : List ℕ) (w r : ℕ) (text-now : List ℕ) (w-now : ℕ) : Type 0 where

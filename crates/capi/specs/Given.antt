@@ -1,17 +1,13 @@
 -- What is given follows from the operations' answers.
--- Main: unless-none, unless-same, given, refused-given, value-given; reads-refused, reads-strike; lists-refused, lists-tune; names-card, names-none, names-refused;
--- pulled-short.
+-- Main: unless-none, unless-same, given, refused-given, value-given; reads-refused, reads-strike; lists-refused, lists-tune; pulled-short.
 use mathlib.Core.Path.{_≡_, refl, sym, ap, _∙_}
 use mathlib.Core.Bool.{Bool, true, false, cond}
 use mathlib.Core.List.{List}
-use mathlib.Core.Option.{none, some}
 use Prim.Native.Nat.{ℕ, _≤_}
-use native.Mathlib.Omega.{arith}
 use lib.Dec.{eqb}
 use lib.ListN.{length}
 use borrow.Author.Tests.{ne-eqb}
 use Rattle.refusal.specs.declared.Refusal.{Refusal}
-use Rattle.refusal.specs.declared.Refusal.the-variants.{Length}
 use Rattle.refusal.specs.Replies.{number, refusal-some, Reply, replied, refused-with, reply-with, unless}
 use Rattle.rank.specs.declared.Weight.{Weight}
 use Rattle.strike.specs.declared.Strike.{Strike}
@@ -20,16 +16,12 @@ use Rattle.book.specs.declared.entries.Entry.the-variants as entries
 use Rattle.book.specs.declared.entries.Tune.{Tune}
 use Rattle.book.specs.declared.reading.Reading.{Reading}
 use Rattle.book.specs.declared.reading.Reading.the-variants as readings
-use Rattle.book.specs.declared.bodies.Worn.{Worn}
-use Rattle.book.specs.declared.bodies.Worn.the-variants as worn
-use Rattle.book.specs.Layout.{body-good}
 use Rattle.book.specs.Pull.{pulled}
 use Rattle.book.specs.Pulled.{pulled-good}
 use Rattle.book.specs.Entries.{tune-reply, tune-at}
 use Rattle.book.specs.Reading.{Card-value, read-reply, reading}
-use Rattle.book.specs.Bodies.{body-refusal, worn-reply, Worn-answers}
 use Rattle.book.specs.CardLoops.{good-length}
-use Rattle.capi.specs.Calls.{Gives, Lists, Reads, card-number, Names}
+use Rattle.capi.specs.Calls.{Gives, Lists, Reads}
 
 -- A NUMBER AFTERWARDS: the answer where there is no refusal, else what it was
 pub unless-none : (n v old : ℕ) → n ≡ 0 → v ≡ unless n v old
@@ -98,33 +90,6 @@ module _ (bs : List ℕ) (e n c : ℕ) (r : Entry) (l : tune-reply r ≡ tune-at
         number-is = ap (λ (x : Reply Tune). x .value .number) (rw p at l) ∙ unless-none _ _ _ (sym z);
         cards-is = ap (λ (x : Reply Tune). x .value .cards) (rw p at l) ∙ unless-none _ _ _ (sym z);
       }
-
--- WORN
-not-bad : (bs : List ℕ) → 0 ≡ body-refusal bs → body-good bs ≡ false → ⊥
-unfolding body-refusal
-not-bad bs e b = let z : 0 ≡ number Length = rw b at e in omega arith
-
-not-good : (bs : List ℕ) (x : Refusal) → number x ≡ body-refusal bs → body-good bs ≡ true → ⊥
-unfolding body-refusal
-not-good bs x e g = refusal-some x (rw g at e)
-
-module _ (bs : List ℕ) (old : ℕ) (w : Worn) (s : Worn-answers bs (worn-reply w)) where
-  pub names-card : (n : ℕ) → w ≡ worn.Card n → Names bs old 0 n
-  unfolding card-number
-  names-card n e =
-      let t = rw e at s in
-      record { answers = t .refusal; refused = λ b. absurd (not-bad bs (t .refusal) b); named = λ g. (some n, refl, t .named g) }
-
-  pub names-none : w ≡ worn.Nothing → Names bs old 0 0
-  unfolding card-number
-  names-none e =
-      let t = rw e at s in
-      record { answers = t .refusal; refused = λ b. absurd (not-bad bs (t .refusal) b); named = λ g. (none, refl, t .named g) }
-
-  pub names-refused : (x : Refusal) → w ≡ worn.Refused x → Names bs old (number x) old
-  names-refused x e =
-      let t = rw e at s in
-      record { answers = t .refusal; refused = λ b. refl; named = λ g. absurd (not-good bs x (t .refusal) g) }
 
 -- PULL: a pulled part is short enough for its length to be a number of 32 bits
 pub pulled-short : (bs : List ℕ) (t : ℕ) → length (pulled bs t) ≤ 65532

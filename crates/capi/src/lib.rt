@@ -5,9 +5,9 @@ ghost use Rattle.refusal.specs.Replies.{reply, unless};
 ghost use Rattle.rank.specs.Weight.{weight-of, weight-reply, weight-refusal};
 ghost use Rattle.book.specs.Layout.{tunes};
 ghost use Rattle.book.specs.Open.{open-refusal};
-ghost use Rattle.book.specs.Bodies.{body-refusal, total-delay};
+ghost use Rattle.book.specs.Bodies.{body-refusal, total-delay, first-damaged, worn-reply};
 ghost use Rattle.writer.specs.Writing.{book-length, size-refusal};
-ghost use Rattle.capi.specs.Calls.{Gives, Encodes, Tests, Decodes, Pulls, Lists, Reads, Names, Writes, Fills};
+ghost use Rattle.capi.specs.Calls.{Gives, Encodes, Tests, Decodes, Pulls, Lists, Reads, card-number, Writes, Fills};
 use book::Entry;
 use book::Reading;
 use book::Worn;
@@ -51,6 +51,24 @@ fn give_rank(a: Weighed, rank: &mut u32) -> u32
         Weighed::Refused(why) => refusal::number(why),
         Weighed::Weight(weight) => {
             *rank = weight.rank;
+            0
+        },
+    }
+}
+
+// The same of an answer that names a card, or none.
+fn give_card(a: Worn, card: &mut u32) -> u32
+    ensures refusal { λ r. ⌜ r ≡ worn-reply a .refusal ⌝ }
+    ensures given { λ r. ⌜ now (card .exit) ≡ unless (worn-reply a .refusal) (card-number (worn-reply a .value)) (now (card .entry)) ⌝ }
+{
+    match a {
+        Worn::Refused(why) => refusal::number(why),
+        Worn::Card(n) => {
+            *card = n;
+            0
+        },
+        Worn::Nothing => {
+            *card = 0;
             0
         },
     }
@@ -174,23 +192,12 @@ pub extern "C" fn lucetcoral_total_delay(body: &[u8], ticks: &mut u32) -> u32
     give(book::total_delay(body), ticks)
 }
 
-// The number of a damaged card, 0 for none (document 01: Worn).
+// The number of the first damaged card, 0 for none (document 01: Worn).
 #[no_mangle]
 pub extern "C" fn lucetcoral_damaged_card(body: &[u8], card: &mut u32) -> u32
-    ensures { λ r. ⌜ Names (now (body .entry)) (now (card .entry)) r (now (card .exit)) ⌝ }
+    ensures { λ r. ⌜ Gives (body-refusal (now (body .entry))) (card-number (first-damaged (now (body .entry)))) (now (card .entry)) r (now (card .exit)) ⌝ }
 {
-    let worn = book::damaged_card(body);
-    match worn {
-        Worn::Card(n) => {
-            *card = n;
-            0
-        },
-        Worn::Nothing => {
-            *card = 0;
-            0
-        },
-        Worn::Refused(why) => refusal::number(why),
-    }
+    give_card(book::damaged_card(body), card)
 }
 
 // The listing of a book.

@@ -13,7 +13,7 @@ use borrow.Author.Tests.{eqb-true, not-false}
 use Rattle.algebra.specs.Tests.{any-above, neither}
 use Rattle.refusal.specs.declared.Outcome.{Outcome}
 use Rattle.refusal.specs.declared.Answer.{Answer}
-use Rattle.refusal.specs.Replies.{Reply, outcome, reply, reply-with, unless}
+use Rattle.refusal.specs.Replies.{outcome, reply, reply-with, unless}
 use Rattle.coding.specs.Decode.{decode}
 use Rattle.coding.specs.Proved.{decode-none}
 use Rattle.book.specs.declared.reading.Reading.{Reading}
@@ -22,10 +22,11 @@ use Rattle.book.specs.Layout.{tunes, part-of, body-good, symbols-from, card}
 use Rattle.book.specs.Open.{size-bad, numbers-bad, bodies-bad, open-refusal}
 use Rattle.book.specs.Pull.{entry-of, missing, part-at, pull-refusal, pulled}
 use Rattle.book.specs.Reading.{read-reply, cards-in, no-card, reading}
-use Rattle.book.specs.Bodies.{body-refusal, delays-from, total-delay, flawed, is-damaged, worn-reply, Worn-answers, Named}
+use Rattle.book.specs.Bodies.{body-refusal, delays-from, total-delay, flawed, is-damaged, first-damaged, worn-reply}
 use Rattle.book.specs.Accepted.{one-entry}
 use Rattle.book.specs.Pulled.{pull-accepted, pull-refused, pulled-accepted, pulled-refused, entry-found, entry-there, empty-refused}
 use Rattle.book.specs.CardReading.{card-range, card-lost, card-strike, card-passes, read-bad, read-past, read-there}
+use Rattle.book.specs.Damaged.{damaged-first, damaged-none}
 use Rattle.writer.specs.Writing.{book-length, size-refusal, lengths-good, write-refusal, Written}
 use Rattle.writer.specs.Shown.{written-shows}
 use Rattle.demands.specs.Settled.{read-settled}
@@ -127,23 +128,29 @@ flawed-none a b e h =
     let y = eqb-true b 0 (not-false (eqb b 0) q) in
     elim h [ inl l ↦ omega arith | inr l ↦ omega arith ]
 
-named : (bs : List ℕ) (o : Option ℕ) → Named bs o → Worn-card bs o
-unfolding Named Worn-card Damaged Read-says is-damaged flawed
-named bs none f =
-    λ n (low, high, (r, h, bad)).
-    let same = read-settled (card bs n) r (reading bs n) (reading-refusal bs n) h (read-is bs n) in
-    flawed-none (reading bs n .refusal) (reading bs n .value .damage .rank) (f n low high) (rw same at bad)
-named bs (some n) (low, high, e) = (low, high, (reading bs n, read-is bs n, flawed-some (reading bs n .refusal) (reading bs n .value .damage .rank) e))
+module _ (bs : List ℕ) where
+  not-damaged : (n : ℕ) → is-damaged bs n ≡ false → Damaged bs n → ⊥
+  unfolding Damaged Read-says is-damaged flawed
+  not-damaged n e (low, high, (r, h, bad)) =
+      let same = read-settled (card bs n) r (reading bs n) (reading-refusal bs n) h (read-is bs n) in
+      flawed-none (reading bs n .refusal) (reading bs n .value .damage .rank) e (rw same at bad)
 
-pub worn-says : (bs : List ℕ) (r : Worn) → Worn-answers bs (worn-reply r) → Worn-says bs (worn-reply r)
-unfolding Worn-says Worn-as body-refusal
-worn-says bs r w = go (worn-reply r) (body-good bs) refl w
+  named : (o : Option ℕ) → first-damaged bs ≡ o → Worn-card bs o
+  unfolding Worn-card Damaged is-damaged flawed
+  named none e = λ n d. not-damaged n (damaged-none bs .0 e n (d .0) (omega (arith, d .1))) d
+  named (some n) e =
+      let f = damaged-first bs n .0 e in (
+        (f .low, omega (arith, f .high), (reading bs n, read-is bs n, flawed-some (reading bs n .refusal) (reading bs n .value .damage .rank) (f .passes))),
+        λ m h d. not-damaged m (f .before m (d .0) h) d,
+      )
+
+pub worn-says : (bs : List ℕ) (r : Worn) → worn-reply r ≡ reply-with none (body-refusal bs) (first-damaged bs) → Worn-says bs (worn-reply r)
+unfolding Worn-says Worn-as body-refusal reply-with
+worn-says bs r e = rw e (go (body-good bs) refl)
   where
-    go : (s : Reply (Option ℕ)) (g : Bool) → body-good bs ≡ g → Worn-answers bs s → Worn-as g bs s
-    go s true h w = (w .refusal ∙ rw h, named bs (s .value) (w .named h))
-    go s false h w =
-        let a : s .refusal ≡ 2 = w .refusal ∙ rw h in
-        λ i. record { refusal = a i; value = w .refused h i }
+    go : (g : Bool) → body-good bs ≡ g → Worn-as g bs (reply-with none (body-refusal bs) (first-damaged bs))
+    go true h = rw h (refl, named bs (first-damaged bs) refl)
+    go false h = rw h
 
 -- WRITE
 pub write-says : {ns cs ss bs : List ℕ} {r : Outcome} {b : List ℕ} → Written ns cs ss bs r b → Write-says ns cs ss (outcome r) bs b

@@ -156,12 +156,12 @@ Length-as false bs r = r ≡ refused-with 0 2
 unfoldable pub Length-says : (body : List ℕ) → Reply ℕ → Type 0
 Length-says bs r = Length-as (body-good bs) bs r
 
--- WORN: 2 for the body; else a card that Read refuses or mends with rank 1 or more, or none exactly if there is no such card
+-- WORN: 2 for the body; else the first card that Read refuses or mends with rank 1 or more, or none exactly if there is no such card
 unfoldable pub Damaged : (body : List ℕ) → (n : ℕ) → Type 0
 Damaged bs n = (1 ≤ n) × (n ≤ cards-in bs) × ((r : Reply Card-value) × Read-says bs n r × ((1 ≤ r .refusal) ⊎ (1 ≤ r .value .damage .rank)))
 
 unfoldable pub Worn-card : (body : List ℕ) → Option ℕ → Type 0
-Worn-card bs (some n) = Damaged bs n
+Worn-card bs (some n) = Damaged bs n × ((m : ℕ) → m < n → Damaged bs m → ⊥)
 Worn-card bs none = (n : ℕ) → Damaged bs n → ⊥
 
 unfoldable pub Worn-as : (good : Bool) → (body : List ℕ) → Reply (Option ℕ) → Type 0

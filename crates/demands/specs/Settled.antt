@@ -1,16 +1,19 @@
 -- What is said leaves nothing free: two answers of which a statement holds are the same, and so are the lists left behind. Press, Weigh, Open, Write
--- and Size are equations already; each other statement is its `-as` at a number x. The card that Worn names is free.
--- Main: test-settled, mend-settled, pull-settled, read-settled, delays-settled.
-use mathlib.Core.Path.{_≡_, refl}
+-- and Size are equations already; each other statement is its `-as` at a number x, that of Worn at a test, and that of Length in its sum.
+-- Main: test-settled, mend-settled, pull-settled, read-settled, delays-settled, worn-settled.
+use mathlib.Core.Path.{_≡_, refl, sym, ap, _∙_}
 use mathlib.Core.Logic.{inl, inr}
+use mathlib.Core.Bool.{Bool, true, false}
 use mathlib.Core.List.{List}
-use Prim.Native.Nat.{ℕ, zero, suc}
+use mathlib.Core.Option.{Option, none, some}
+use Prim.Native.Nat.{ℕ, zero, suc, _<_}
+use native.Mathlib.Omega.{arith}
 use Rattle.refusal.specs.Replies.{Reply}
 use Rattle.rank.specs.declared.Weight.{Weight}
 use Rattle.book.specs.Layout.{card}
 use Rattle.book.specs.Reading.{Card-value}
 use Rattle.demands.specs.Demands.{Test-as, Mend-as, Mended, Hopeless, Pull-as, Pulled, Missing}
-use Rattle.demands.specs.Demands.{reading-refusal, Read-as, Read-card, Read-strike, Read-says, Delays, at-end, one-card}
+use Rattle.demands.specs.Demands.{reading-refusal, Read-as, Read-card, Read-strike, Read-says, Delays, at-end, one-card, Worn-card, Worn-as}
 
 module _ (k : ℕ) (c t : List ℕ) (r s : ℕ) (y z : List ℕ) where
   pub test-settled : (x : ℕ) → Test-as x k c r t y → Test-as x k c s t z → (r ≡ s) × (y ≡ z)
@@ -52,3 +55,20 @@ delays-settled bs (one-card k n d r h a) (one-card _ _ e s l b) =
     let same = read-settled (card bs n) r s (reading-refusal bs n) h l in
     let rest = delays-settled bs a b in
     cc
+
+module _ (bs : List ℕ) where
+  card-settled : (o p : Option ℕ) → Worn-card bs o → Worn-card bs p → o ≡ p
+  unfolding Worn-card
+  card-settled none none a b = refl
+  card-settled none (some n) a b = absurd (a n (b .0))
+  card-settled (some m) none a b = absurd (b m (a .0))
+  card-settled (some m) (some n) a b =
+      let l : m < n → ⊥ = λ h. b .1 m h (a .0) in
+      let r : n < m → ⊥ = λ h. a .1 n h (b .0) in
+      let same : m ≡ n = omega arith in
+      ap some same
+
+  pub worn-settled : (r s : Reply (Option ℕ)) (good : Bool) → Worn-as good bs r → Worn-as good bs s → r ≡ s
+  unfolding Worn-as
+  worn-settled r s true a b = let same = card-settled (r .value) (s .value) (a .1) (b .1) in λ i. record { refusal = (a .0 ∙ sym (b .0)) i; value = same i }
+  worn-settled r s false a b = cc

@@ -77,7 +77,7 @@ pub fn total_delay(body: &[u8]) -> Answer
     book::total_delay(body)
 }
 
-// The answer is a damaged card, or none exactly if there is none (document 01: Worn).
+// The answer is the first damaged card, or none exactly if there is none (document 01: Worn).
 pub fn damaged_card(body: &[u8]) -> Worn
     ensures { λ r. ⌜ Worn-says (now (body .entry)) (worn-reply r) ⌝ }
 {

@@ -1,6 +1,6 @@
 -- `book::bodies::damaged` meets its contract: a refusal's number is not 0.
 use borrow.Author.Needs.{needs}
-use Rattle.book.specs.CardLoops.{flawed-strike, flawed-refused}
+use Rattle.book.specs.Damaged.{flawed-strike, flawed-refused}
 use Rattle.book.proofs.bodies.damaged.Statement.{statement}
 use Rattle.book.proofs.bodies.damaged.Tie as tie
 

@@ -4,47 +4,52 @@ use Prim.Native.Nat.{_+_, _-_, _≤_}
 use native.Mathlib.Omega.{arith}
 use denote.Ref.{now}
 use borrow.Author.Needs.{needs}
+use Rattle.algebra.specs.Search.{None-in, none-start, none-next}
+use Rattle.refusal.specs.Replies.{replied}
 use Rattle.book.specs.Bodies.{flawed, is-damaged}
-use Rattle.book.specs.CardLoops.{good-length, Clean-below, clean-next, worn-is-card, worn-is-none}
+use Rattle.book.specs.CardLoops.{good-length}
+use Rattle.book.specs.Damaged.{damaged-first, damaged-none}
 use Rattle.book.proofs.bodies.find_damaged.Statement.{statement}
 use Rattle.book.proofs.bodies.find_damaged.Tie as tie
 
 abbrev Inv-loop : tie.InvT-loop
-Inv-loop body count n₀ n = (1 ≤ n) × (n ≤ count + 1) × Clean-below body n
+Inv-loop body count number₀ number = None-in (is-damaged body) 1 number × (1 ≤ number) × (number ≤ count + 1)
 
 abbrev μ-loop : tie.MeasureT-loop
-μ-loop body count n₀ n = count + 1 - n
+μ-loop body count number₀ number = count + 1 - number
 
 cast-count : tie.Need-cast-count Inv-loop μ-loop
 cast-count c = omega (arith, good-length _ (c .before .pre))
 
 loop-holds : tie.Need-loop-holds Inv-loop μ-loop
-loop-holds c = (search needs, search needs, λ k a b. absurd (omega arith))
+loop-holds c = (none-start (is-damaged (now (c .before .args .body))) 1, search needs, search needs)
 
 -- what is tested is whether the card is damaged
 tested : (c : tie.After-damaged Inv-loop μ-loop) → let l = c .before .before .before in
-    c .damaged .result ≡ is-damaged (now (l .before .before .args .body)) (l .loop .n)
+    c .damaged .result ≡ is-damaged (now (l .before .before .args .body)) (l .loop .number)
 unfolding is-damaged
 tested c = c .damaged .ensures ∙ ap flawed (c .before .read-card .ensures)
-
-add-n : tie.Need-add-n Inv-loop μ-loop
-add-n c = omega (arith, good-length _ (c .before .before .before .before .before .before .pre))
 
 loop-again : tie.Need-loop-again Inv-loop μ-loop
 loop-again c =
     let l = c .before .before .before .before in
-    (search needs, search needs, clean-next (now (l .before .before .args .body)) (l .loop .n) (l .loop .inv .2) (sym (tested (c .before)) ∙ c .if2 .left))
+    let b = now (l .before .before .args .body) in
+    (none-next (is-damaged b) 1 (l .loop .number) (l .loop .inv .0) (sym (tested (c .before)) ∙ c .if2 .left), search needs, search needs)
 
 returns : tie.Need-returns Inv-loop μ-loop
 returns c =
     let l = c .before in
-    worn-is-none (now (l .before .before .args .body)) (l .loop .n) (l .before .before .pre) (l .loop .inv .2) (omega arith)
+    ap replied (sym (damaged-none (now (l .before .before .args .body)) .1 (λ i a b. l .loop .inv .0 i a (omega arith))))
 
 returns-2 : tie.Need-returns-2 Inv-loop μ-loop
 returns-2 c =
     let l = c .before .before .before .before in
-    let s = l .before .before in
-    worn-is-card (now (s .args .body)) (l .loop .n) (s .pre) (omega arith) (omega arith) (sym (tested (c .before)) ∙ c .if2 .taken)
+    ap replied (sym (damaged-first (now (l .before .before .args .body)) (l .loop .number) .1 (record {
+      low = omega arith;
+      high = omega arith;
+      passes = sym (tested (c .before)) ∙ c .if2 .taken;
+      before = l .loop .inv .0;
+    })))
 
 pub find-damaged-spec : {M : Type 1} → statement M
 find-damaged-spec =
@@ -56,7 +61,7 @@ find-damaged-spec =
     loop-holds
     (search needs)
     (search needs)
-    add-n
+    (λ c. omega (arith, good-length _ (c .before .before .before .before .before .before .pre)))
     (search needs)
     loop-again
     returns
