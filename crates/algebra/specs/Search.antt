@@ -1,5 +1,5 @@
 -- The first number of a range that passes a test.
--- Main: first-from, None-in, First, first-some, first-none, none-start, none-next.
+-- Main: first-from, None-in, First, search-first, search-none, none-start, none-next.
 use mathlib.Core.Path.{_≡_, refl, sym, ap, _∙_}
 use mathlib.Core.Bool.{Bool, true, false, cond, true≢false}
 use mathlib.Core.Logic.{_↔_}
@@ -69,15 +69,15 @@ module _ (p : ℕ → Bool) where
       go false e f = found-next a b e _ f
 
   module _ (k a b : ℕ) (s : a + k ≡ b) where
-    pub first-some : (n : ℕ) → (first-from k a p ≡ some n) ↔ First a b n
-    first-some n = go (first-from k a p) (found k a b s)
+    pub search-first : (n : ℕ) → (first-from k a p ≡ some n) ↔ First a b n
+    search-first n = go (first-from k a p) (found k a b s)
       where
         go : (o : Option ℕ) → Found a b o → (o ≡ some n) ↔ First a b n
         go none (nothing f) = ((λ e. absurd (let z : _≡_ {A = ℕ} 0 1 = cc in omega arith)), λ g. absurd (none-passes a b f n g))
         go (some m) (something _ f) = ((λ e. let q : m ≡ n = cc in rw (← q) f), λ g. ap some (first-only a b m n f g))
 
-    pub first-none : (first-from k a p ≡ none) ↔ None-in a b
-    first-none = go (first-from k a p) (found k a b s)
+    pub search-none : (first-from k a p ≡ none) ↔ None-in a b
+    search-none = go (first-from k a p) (found k a b s)
       where
         go : (o : Option ℕ) → Found a b o → (o ≡ none) ↔ None-in a b
         go none (nothing f) = ((λ e. f), λ g. refl)

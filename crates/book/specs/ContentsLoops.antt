@@ -14,7 +14,7 @@ use lib.Dec.{leb, eqb}
 use lib.ListN.{length, getD, drop, drop-of-length-le}
 use lib.Seq.{drop-cons}
 use Rattle.algebra.specs.Lists.{length-table, at-table}
-use Rattle.algebra.specs.Search.{First, None-in, first-some, first-none}
+use Rattle.algebra.specs.Search.{First, None-in, search-first, search-none}
 use Rattle.book.specs.declared.pull.Place.{Place}
 use Rattle.book.specs.declared.pull.Place.the-variants.{At, Nowhere}
 use Rattle.book.specs.Layout.{tunes, contents-end, tune-number, offset, cards, tune-numbers, card-counts}
@@ -98,8 +98,8 @@ place-of Nowhere = none
 -- the entry is the first that bears the number, and there is none exactly if none bears it
 pub entry-first : (bs : List ℕ) (t e : ℕ) → (entry-of bs t ≡ some e) ↔ First (bears bs t) 0 (tunes bs) e
 unfolding entry-of
-entry-first bs t e = first-some (bears bs t) (tunes bs) 0 (tunes bs) (omega arith) e
+entry-first bs t e = search-first (bears bs t) (tunes bs) 0 (tunes bs) (omega arith) e
 
 pub entry-none : (bs : List ℕ) (t : ℕ) → (entry-of bs t ≡ none) ↔ None-in (bears bs t) 0 (tunes bs)
 unfolding entry-of
-entry-none bs t = first-none (bears bs t) (tunes bs) 0 (tunes bs) (omega arith)
+entry-none bs t = search-none (bears bs t) (tunes bs) 0 (tunes bs) (omega arith)

@@ -8,7 +8,7 @@ use mathlib.Core.Option.{none, some}
 use Prim.Native.Nat.{ℕ, _+_}
 use native.Mathlib.Omega.{arith}
 use lib.Dec.{eqb}
-use Rattle.algebra.specs.Search.{First, None-in, first-some, first-none}
+use Rattle.algebra.specs.Search.{First, None-in, search-first, search-none}
 use Rattle.refusal.specs.Replies.{number-not-zero}
 use Rattle.refusal.specs.declared.Refusal.{Refusal}
 use Rattle.rank.specs.declared.Weight.{Weight}
@@ -31,9 +31,9 @@ module _ (bs : List ℕ) where
   -- it is card n exactly if that is damaged, with none before it
   pub damaged-first : (n : ℕ) → (first-damaged bs ≡ some n) ↔ First (is-damaged bs) 1 (cards-in bs + 1) n
   unfolding first-damaged
-  damaged-first n = first-some (is-damaged bs) (cards-in bs) 1 (cards-in bs + 1) (omega arith) n
+  damaged-first n = search-first (is-damaged bs) (cards-in bs) 1 (cards-in bs + 1) (omega arith) n
 
   -- there is none exactly if no card is damaged
   pub damaged-none : (first-damaged bs ≡ none) ↔ None-in (is-damaged bs) 1 (cards-in bs + 1)
   unfolding first-damaged
-  damaged-none = first-none (is-damaged bs) (cards-in bs) 1 (cards-in bs + 1) (omega arith)
+  damaged-none = search-none (is-damaged bs) (cards-in bs) 1 (cards-in bs + 1) (omega arith)
