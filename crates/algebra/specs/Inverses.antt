@@ -1,5 +1,5 @@
 -- Inverses by logarithms, and with them no divisors of 0.
--- Main: times-inverse, divide, no-divisors, times-not-zero, risen-not-zero, inverse-only.
+-- Main: times-inverse, divide, no-divisors, times-not-zero, risen-not-zero, inverse-only, inverse-cube.
 use mathlib.Core.Path.{_≡_, sym, ap, ap₂, _∙_}
 use mathlib.Core.Bool.{cond}
 use Prim.Native.Nat.{ℕ, zero, suc, _+_, _-_, _%_, _<_}
@@ -10,7 +10,8 @@ use lib.Dec.{eqb, lit<}
 use borrow.Author.Tests.{eq-eqb, ne-eqb}
 use Rattle.algebra.specs.Field.{times, power, cube, risen}
 use Rattle.algebra.specs.Sums.{Zero}
-use Rattle.algebra.specs.Products.{times-comm, times-assoc, times-one, times-zero, rest-times, times-whole}
+use Rattle.algebra.specs.Linear.{computing, at-zero, at-rest}
+use Rattle.algebra.specs.Products.{cube-linear, cube-times, times-comm, times-assoc, times-one, times-zero, rest-times, times-whole}
 use Rattle.algebra.specs.Powers.{log, log-below, power-below, power-log, power-plus, power-728}
 
 -- the inverse of a symbol; that of 0 is 0
@@ -54,3 +55,13 @@ risen-not-zero (suc i) a n =
 -- the inverse is the only one
 pub inverse-only : (a r : ℕ) → ¬ Zero a → times a r ≡ 1 → r % 729 ≡ inverse a
 inverse-only a r n e = sym (divide a r n) ∙ ap (times (inverse a)) e ∙ times-one (inverse a) ∙ mod-eq-of-lt (inverse-below a)
+
+-- that of a cube is the cube of the inverse
+pub inverse-cube : (a : ℕ) → cube (inverse a) ≡ inverse (cube a)
+unfolding computing
+inverse-cube a = elim (ℕ-discrete (a % 729) 0) [
+  | yes z ↦ ap cube (inverse-zero a z) ∙ at-zero cube-linear
+      ∙ sym (inverse-zero (cube a) (ap (λ (x : ℕ). x % 729) (sym (at-rest cube-linear a) ∙ ap cube z ∙ at-zero cube-linear)))
+  | no n ↦ sym (mod-eq-of-lt (cube-linear .below (inverse a)))
+      ∙ inverse-only (cube a) (cube (inverse a)) (risen-not-zero 1 a n) (sym (cube-times a (inverse a)) ∙ ap cube (times-inverse a n))
+]

@@ -11,8 +11,9 @@ use borrow.Author.Tests.{eq-eqb, ne-eqb}
 use Rattle.algebra.specs.Field.{add, minus, times, cube, small}
 use Rattle.algebra.specs.Lists.{table}
 use Rattle.algebra.specs.Tests.{passes}
-use Rattle.algebra.specs.Products.{ring}
-use Rattle.algebra.specs.Inverses.{inverse}
+use Rattle.algebra.specs.Linear.{computing, agree, summed, none-linear, scale-linear}
+use Rattle.algebra.specs.Products.{ring, right}
+use Rattle.algebra.specs.Inverses.{inverse, inverse-cube}
 use Rattle.algebra.specs.SmallField.{low, high, low-below, high-below}
 use Rattle.rank.specs.Definitions.{at, is-card}
 use Rattle.coding.specs.Code.{is-message}
@@ -32,19 +33,19 @@ use Rattle.decoder.specs.declared.two.Shared.{Shared}
 
 -- k = 1: THE MESSAGE solved by the window
 pub double-by : (r : ℕ → ℕ) (a : Annihilator) → Annihilates (r 2) (r 3) (r 4) (r 5) a → (f₀ e₀ f₁ m₀ m₁ : ℕ)
-    → f₀ ≡ add (r 0) (times (a .inverse) (add (times (cube (cube (r 4))) (a .determinant)) (times (a .numerator) (cube (r 5))))) → e₀ ≡ minus (r 0) f₀
-    → f₁ ≡ add (r 1) (times (a .inverse) (add (times (cube (cube (r 5))) (a .determinant)) (times (a .numerator) (cube e₀)))) → m₀ ≡ low f₀ → m₁ ≡ high f₁
+    → f₀ ≡ add (r 0) (times (cube (a .inverse)) (add (times (cube (cube (r 4))) (a .determinant)) (times (a .numerator) (cube (r 5))))) → e₀ ≡ minus (r 0) f₀
+    → f₁ ≡ add (r 1) (times (cube (a .inverse)) (add (times (cube (cube (r 5))) (a .determinant)) (times (a .numerator) (cube e₀)))) → m₀ ≡ low f₀ → m₁ ≡ high f₁
     → m₀ ∷ m₁ ∷ [] ≡ double r
 unfolding double zeroth first
 double-by r a s f₀ e₀ f₁ m₀ m₁ h₀ e h₁ h₂ h₃ = rw (h₂, h₃, solved-by s f₁ (r 1) (r 5) e₀ h₁, e, solved-by s f₀ (r 0) (r 4) (r 5) h₀)
 
-pub parts-message : (a b x y : ℕ) → a ≡ low x → b ≡ high y → is-message 1 (a ∷ b ∷ []) ≡ true
+pub parts-message : (x y : ℕ) → is-message 1 (low x ∷ high y ∷ []) ≡ true
 unfolding is-message
-parts-message a b x y p q = rw (p, q) (passes 2 26 (low x ∷ high y ∷ []) refl (low-below x, (high-below y, tt)))
+parts-message x y = passes 2 26 (low x ∷ high y ∷ []) refl (low-below x, (high-below y, tt))
 
 pub double-message : (r : ℕ → ℕ) → is-message 1 (double r) ≡ true
 unfolding double
-double-message r = parts-message _ _ (zeroth r) (first r) refl refl
+double-message r = parts-message (zeroth r) (first r)
 
 module _ (c : List ℕ) (card : is-card c ≡ true) (r : List ℕ) (e : r ≡ table 6 (spectrum c)) (d : ℕ) (ed : d ≡ determinant (at r 3) (at r 4) (at r 5)) where
   pub one-single : d ≡ 0 → if-rank-one 1 c (at r 4) ≡ decode 1 c
@@ -68,7 +69,7 @@ pub record Prepared (r : ℕ → ℕ) (s : Shared) : Type 0 where
   pub zeroth : s .zeroth ≡ r 0
   pub first : s .first ≡ r 1
   pub fifth : s .fifth ≡ r 5
-  pub inverse : s .inverse ≡ inverse (cube (determinant (r 3) (r 4) (r 5)))
+  pub inverse : s .inverse ≡ inverse (determinant (r 3) (r 4) (r 5))
   pub determinant : (x : ℕ) → value-at (s .determinant) x ≡ determinant (r 4) (r 5) (minus (r 0) x)
   pub numerator : (x : ℕ) → value-at (s .numerator) x ≡ numerator (r 3) (r 4) (r 5) (minus (r 0) x)
   pub ninth : (x : ℕ) → value-at (s .ninth) x ≡ ninth-numerator r (minus (r 0) x)
@@ -79,6 +80,11 @@ unfolding at table ninth-numerator
 prepared-of c r s e p =
     let q : Prepared (at (table 6 (spectrum c))) s = rw e at p in
     record { zeroth = q .zeroth; first = q .first; fifth = q .fifth; determinant = q .determinant; numerator = q .numerator; ninth = q .ninth; inverse = q .inverse }
+
+-- 2 is -1
+two-times : (a : ℕ) → times 2 a ≡ minus 0 a
+unfolding computing minus
+two-times = agree (right 2) (summed none-linear (scale-linear 2)) refl
 
 -- the three numbers, from those for the first symbol 0
 module _ (r : ℕ → ℕ) (x : ℕ) where
@@ -106,9 +112,9 @@ module _ (r : ℕ → ℕ) (x : ℕ) where
           ≡ times 684 (add (times b₂ (add d (times (minus 0 c₄) x))) (add (times (add n (times b₃ x)) c₃) k))
       split b₂ b₃ c₃ c₄ d n k = simp ring
 
-  pub determinant-at : (l : Affine) → l .constant ≡ determinant (r 4) (r 5) (r 0) → l .factor ≡ minus 0 (cube (r 4)) → value-at l x ≡ determinant (r 4) (r 5) (minus (r 0) x)
+  pub determinant-at : (l : Affine) → l .constant ≡ determinant (r 4) (r 5) (r 0) → l .factor ≡ times 2 (cube (r 4)) → value-at l x ≡ determinant (r 4) (r 5) (minus (r 0) x)
   unfolding value-at
-  determinant-at l c f = rw (c, f) determinant-less
+  determinant-at l c f = rw (c, f, two-times (cube (r 4))) determinant-less
 
   pub numerator-at : (l : Affine) → l .constant ≡ numerator (r 3) (r 4) (r 5) (r 0) → l .factor ≡ cube (cube (r 3))
       → value-at l x ≡ numerator (r 3) (r 4) (r 5) (minus (r 0) x)
@@ -127,10 +133,10 @@ module _ (r : ℕ → ℕ) (s : Shared) (p : Prepared r s) (a x d : ℕ) (ex : x
   ninth-by n v en ev = rw (ev, en, ed, p .determinant x, p .ninth x, ex)
 
   pub inner-by : (f : ℕ)
-      → f ≡ add (s .first) (times (s .inverse) (add (times (cube (cube (s .fifth))) d) (times (value-at (s .numerator) x) (cube (minus (s .zeroth) x)))))
+      → f ≡ add (s .first) (times (cube (s .inverse)) (add (times (cube (cube (s .fifth))) d) (times (value-at (s .numerator) x) (cube (minus (s .zeroth) x)))))
       → f ≡ inner-coefficient r (zeroth-error r a)
   unfolding inner-coefficient solved zeroth-error
-  inner-by f e = rw (e, ed, p .first, p .inverse, p .fifth, p .determinant x, p .numerator x, p .zeroth, ex)
+  inner-by f e = rw (e, ed, p .first, p .inverse, inverse-cube, p .fifth, p .determinant x, p .numerator x, p .zeroth, ex)
 
 pub proposed-is : (r : ℕ → ℕ) (a v f m₁ m₂ m₃ : ℕ) → v ≡ ninth r (zeroth-error r a) → f ≡ inner-coefficient r (zeroth-error r a)
     → m₁ ≡ low f → m₂ ≡ high f → m₃ ≡ low (cube v) → a ∷ m₁ ∷ m₂ ∷ m₃ ∷ [] ≡ proposed r a

@@ -12,6 +12,7 @@ ghost use Rattle.refusal.specs.Replies.{outcome};
 ghost use Rattle.candidate.specs.Finding.{found-message, Consistent};
 ghost use Rattle.decoder.specs.Decoding.{decode-tests, Decoded};
 use crate::one::decode_one;
+use crate::one::shown;
 use crate::single::decode_four;
 use crate::single::find_single;
 use crate::two::decode_two;
@@ -19,13 +20,15 @@ use candidate::Found;
 use candidate::clean;
 use candidate::is_word;
 use candidate::nothing;
+use candidate::same;
+use candidate::undamaged;
 use rank::Weighed;
 use refusal::Outcome;
 use refusal::Refusal;
 
-// The message near a card that is no word, for k from 2 on. For k = 5 there is none.
+// The message near a card that is no word, if there is one. For k = 5 there is none.
 fn decode_damaged(k: usize, card: [u16; 6], r: [u16; 6]) -> Found
-    requires { ⌜ (2 ≤ k) × (k ≤ 5) × (is-card card ≡ true) × (r ≡ table 6 (spectrum card)) × (shaped k (at r) ≡ false) ⌝ }
+    requires { ⌜ (1 ≤ k) × (k ≤ 5) × (is-card card ≡ true) × (r ≡ table 6 (spectrum card)) × (shaped k (at r) ≡ false) ⌝ }
     ensures { λ f. ⌜ (found-message k f ≡ decode k card) × Consistent k card f ⌝ }
 {
     if k == 5 {
@@ -33,6 +36,9 @@ fn decode_damaged(k: usize, card: [u16; 6], r: [u16; 6]) -> Found
     }
     let logs = field::logs();
     let powers = field::powers();
+    if k == 1 {
+        return decode_one(card, r, &logs, &powers);
+    }
     if k == 2 {
         return decode_two(card, r, &logs, &powers);
     }
@@ -42,13 +48,17 @@ fn decode_damaged(k: usize, card: [u16; 6], r: [u16; 6]) -> Found
     decode_four(card, r, &logs, &powers)
 }
 
-// The message near a card, if there is one.
+// The message near a card, if there is one. For k = 1 a word's first symbol shows the message: to encode it again takes less time than a spectrum.
 pub fn decode_card(k: usize, card: [u16; 6]) -> Found
     requires { ⌜ (1 ≤ k) × (k ≤ 5) × (is-card card ≡ true) ⌝ }
     ensures { λ f. ⌜ (found-message k f ≡ decode k card) × Consistent k card f ⌝ }
 {
     if k == 1 {
-        return decode_one(card);
+        let message = shown(card[0]);
+        let word = codec::word_of(1, message);
+        if same(word, card) {
+            return undamaged(1, card, message);
+        }
     }
     let r = codec::spectrum(card);
     if is_word(k, r) {

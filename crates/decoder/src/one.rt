@@ -1,9 +1,11 @@
-// Decoding for k = 1. The first symbol of a card without damage shows the message: to encode it again takes less time than a spectrum. Else four of the
-// error's coefficients are the card's, and the other two are solved by them.
+// Decoding for k = 1: four of the error's coefficients are the card's, and the other two are solved by them. What the first symbol of a card
+// without damage shows stands here too.
 ghost use mathlib.Core.Path.{_≡_};
 ghost use mathlib.Core.Bool.{true};
+ghost use mathlib.Core.List.{[], _∷_};
 ghost use lib.ListN.{take};
 ghost use Rattle.algebra.specs.Lists.{table};
+ghost use Rattle.algebra.specs.SmallField.{low, high};
 ghost use Rattle.rank.specs.Definitions.{at, is-card};
 ghost use Rattle.field.specs.Tables.{Tables};
 ghost use Rattle.coding.specs.Spectrum.{spectrum};
@@ -18,8 +20,6 @@ use crate::window::determinant;
 use crate::window::solved;
 use candidate::Found;
 use candidate::near;
-use candidate::same;
-use candidate::undamaged;
 
 // The message where the error has rank 2.
 fn double(r: [u16; 6], a: Annihilator, logs: &[u16; 729], powers: &[u16; 728]) -> [u16; 10]
@@ -32,8 +32,13 @@ fn double(r: [u16; 6], a: Annihilator, logs: &[u16; 729], powers: &[u16; 728]) -
     [field::low(f0), field::high(f1), 0, 0, 0, 0, 0, 0, 0, 0]
 }
 
-// The message near a card for k = 1, if there is one, from its spectrum.
-fn decode_spectrum(card: [u16; 6], r: [u16; 6], logs: &[u16; 729], powers: &[u16; 728]) -> Found
+// The message near a card for k = 1, if there is one.
+pub(crate) fn decode_one(
+    card: [u16; 6],
+    r: [u16; 6],
+    logs: &[u16; 729],
+    powers: &[u16; 728],
+) -> Found
     requires { ⌜ (is-card card ≡ true) × (r ≡ table 6 (spectrum card)) × Tables (now logs) (now powers) ⌝ }
     ensures { λ f. ⌜ (found-message 1 f ≡ decode 1 card) × Consistent 1 card f ⌝ }
 {
@@ -45,18 +50,9 @@ fn decode_spectrum(card: [u16; 6], r: [u16; 6], logs: &[u16; 729], powers: &[u16
     near(card, 1, double(r, a, logs, powers))
 }
 
-// The message near a card for k = 1, if there is one.
-pub(crate) fn decode_one(card: [u16; 6]) -> Found
-    requires { ⌜ is-card card ≡ true ⌝ }
-    ensures { λ f. ⌜ (found-message 1 f ≡ decode 1 card) × Consistent 1 card f ⌝ }
+// The message that a word's first symbol shows.
+pub(crate) fn shown(c: u16) -> [u16; 10]
+    ensures { λ m. ⌜ take 2 m ≡ low c ∷ high c ∷ [] ⌝ }
 {
-    let c = card[0];
-    let shown = [field::low(c), field::high(c), 0, 0, 0, 0, 0, 0, 0, 0];
-    let word = codec::word_of(1, shown);
-    if same(word, card) {
-        return undamaged(1, card, shown);
-    }
-    let logs = field::logs();
-    let powers = field::powers();
-    decode_spectrum(card, codec::spectrum(card), &logs, &powers)
+    [field::low(c), field::high(c), 0, 0, 0, 0, 0, 0, 0, 0]
 }

@@ -27,7 +27,7 @@ fn ratio(u: u16, v: u16, logs: &[u16; 729], powers: &[u16; 728]) -> u16
     requires { ⌜ Tables (now logs) (now powers) ⌝ }
     ensures { λ r. ⌜ r ≡ times v (inverse (cube u)) ⌝ }
 {
-    field::quotient_with(v, field::cube_with(u, logs, powers), logs, powers)
+    field::cube_product_with(v, field::inverse_with(u, logs, powers), logs, powers)
 }
 
 // The coefficients of an error whose last is v and the one before it u.

@@ -16,12 +16,14 @@ ghost use Rattle.decoder.specs.Doubles.{value-at, Prepared};
 use crate::single::find_single;
 use crate::window::Annihilator;
 use crate::window::determinant;
-use crate::window::ninth_power;
+use crate::window::ninth_product;
 use crate::window::numerator;
 use crate::window::solved;
 use candidate::Found;
 use candidate::near;
 use candidate::nothing;
+
+const MINUS_ONE: u16 = 2;
 
 // 1 / gamma^9
 const INVERSE_GAMMA_9: u16 = 684;
@@ -33,7 +35,7 @@ pub struct Affine {
 }
 
 // What all proposals share: three of the card's coefficients; the determinant, the numerator of the annihilator's middle coefficient and that of
-// the last symbol's ninth power; and 1 / the numerator of the annihilator's lowest coefficient.
+// the last symbol's ninth power; and 1 / the determinant before.
 pub struct Shared {
     pub zeroth: u16,
     pub first: u16,
@@ -51,24 +53,23 @@ fn value_at(l: Affine, x: u16, logs: &[u16; 729], powers: &[u16; 728]) -> u16
     field::sum(l.constant, field::product_with(l.factor, x, logs, powers))
 }
 
-// The numerator of the last symbol's ninth power, from a window's determinant d and the numerators n and lowest of its annihilator.
+// The numerator of the last symbol's ninth power, from a window's determinant d and numerator n, and the determinant known before it.
 fn ninth_numerator(
     r: [u16; 6],
     d: u16,
     n: u16,
-    lowest: u16,
+    known: u16,
     logs: &[u16; 729],
     powers: &[u16; 728],
 ) -> u16
     requires { ⌜ Tables (now logs) (now powers) ⌝ }
-    ensures { λ v. ⌜ v ≡ times 684 (add (times (cube (cube (at r 2))) d) (add (times n (cube (at r 3))) (times lowest (at r 4)))) ⌝ }
+    ensures { λ v. ⌜ v ≡ times 684 (add (times (cube (cube (at r 2))) d) (add (times n (cube (at r 3))) (times (cube known) (at r 4)))) ⌝ }
 {
-    let b2 = ninth_power(r[2], logs, powers);
     let t = field::sum(
         field::cube_product_with(n, r[3], logs, powers),
-        field::product_with(lowest, r[4], logs, powers),
+        field::cube_product_with(r[4], known, logs, powers),
     );
-    let u = field::sum(field::product_with(b2, d, logs, powers), t);
+    let u = field::sum(ninth_product(d, r[2], logs, powers), t);
     field::product_with(INVERSE_GAMMA_9, u, logs, powers)
 }
 
@@ -81,8 +82,7 @@ fn prepare(r: [u16; 6], known: u16, logs: &[u16; 729], powers: &[u16; 728]) -> S
     let r3 = r[3];
     let r4 = r[4];
     let r5 = r[5];
-    let lowest = field::cube_with(known, logs, powers);
-    let before = field::cube_with(determinant(r[2], r3, r4, logs, powers), logs, powers);
+    let before = determinant(r[2], r3, r4, logs, powers);
     let d = determinant(r4, r5, r0, logs, powers);
     let n = numerator(r3, r4, r5, r0, logs, powers);
     Shared {
@@ -91,27 +91,27 @@ fn prepare(r: [u16; 6], known: u16, logs: &[u16; 729], powers: &[u16; 728]) -> S
         fifth: r5,
         determinant: Affine {
             constant: d,
-            factor: field::difference(0, field::cube_with(r4, logs, powers)),
+            factor: field::cube_product_with(MINUS_ONE, r4, logs, powers),
         },
         numerator: Affine {
             constant: n,
-            factor: ninth_power(r3, logs, powers),
+            factor: ninth_product(1, r3, logs, powers),
         },
         ninth: Affine {
-            constant: ninth_numerator(r, d, n, lowest, logs, powers),
+            constant: ninth_numerator(r, d, n, known, logs, powers),
             factor: field::difference(
                 0,
-                field::product_with(INVERSE_GAMMA_9, before, logs, powers),
+                field::cube_product_with(INVERSE_GAMMA_9, before, logs, powers),
             ),
         },
-        inverse: field::inverse_with(lowest, logs, powers),
+        inverse: field::inverse_with(known, logs, powers),
     }
 }
 
 // The message's coefficient in between, from its first symbol x and the determinant.
 fn inner_coefficient(s: Shared, x: u16, known: u16, logs: &[u16; 729], powers: &[u16; 728]) -> u16
     requires { ⌜ Tables (now logs) (now powers) ⌝ }
-    ensures { λ v. ⌜ v ≡ add (s .first) (times (s .inverse) (add (times (cube (cube (s .fifth))) known) (times (value-at (s .numerator) x) (cube (minus (s .zeroth) x))))) ⌝ }
+    ensures { λ v. ⌜ v ≡ add (s .first) (times (cube (s .inverse)) (add (times (cube (cube (s .fifth))) known) (times (value-at (s .numerator) x) (cube (minus (s .zeroth) x))))) ⌝ }
 {
     let a = Annihilator {
         inverse: s.inverse,
@@ -136,7 +136,7 @@ fn attempt(card: [u16; 6], s: Shared, a: u16, logs: &[u16; 729], powers: &[u16; 
     let f = inner_coefficient(s, x, d, logs, powers);
     let second = field::low(f);
     let third = field::high(f);
-    let fourth = field::low(field::cube_with(v, logs, powers));
+    let fourth = field::low(field::cube(v));
     let message = [a, second, third, fourth, 0, 0, 0, 0, 0, 0];
     near(card, 2, message)
 }

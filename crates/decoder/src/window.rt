@@ -7,18 +7,19 @@ ghost use Rattle.field.specs.Tables.{Tables};
 ghost use Rattle.coding.specs.Window.{determinant, numerator};
 ghost use Rattle.decoder.specs.Windows.{Annihilates};
 
-// 1 / the cube of the determinant before it, the numerator, and the determinant.
+// 1 / the determinant before it, the numerator, and the determinant.
 pub struct Annihilator {
     pub inverse: u16,
     pub numerator: u16,
     pub determinant: u16,
 }
 
-pub(crate) fn ninth_power(a: u16, logs: &[u16; 729], powers: &[u16; 728]) -> u16
+// a times the ninth power of b, which is the cube of its cube.
+pub(crate) fn ninth_product(a: u16, b: u16, logs: &[u16; 729], powers: &[u16; 728]) -> u16
     requires { ⌜ Tables (now logs) (now powers) ⌝ }
-    ensures { λ v. ⌜ v ≡ cube (cube a) ⌝ }
+    ensures { λ v. ⌜ v ≡ times (cube (cube b)) a ⌝ }
 {
-    field::cube_with(field::cube_with(a, logs, powers), logs, powers)
+    field::cube_product_with(a, field::cube(b), logs, powers)
 }
 
 pub fn determinant(x: u16, y: u16, z: u16, logs: &[u16; 729], powers: &[u16; 728]) -> u16
@@ -36,8 +37,8 @@ pub fn numerator(w: u16, x: u16, y: u16, z: u16, logs: &[u16; 729], powers: &[u1
     ensures { λ v. ⌜ v ≡ numerator w x y z ⌝ }
 {
     field::difference(
-        field::product_with(ninth_power(x, logs, powers), y, logs, powers),
-        field::product_with(ninth_power(w, logs, powers), z, logs, powers),
+        ninth_product(y, x, logs, powers),
+        ninth_product(z, w, logs, powers),
     )
 }
 
@@ -54,9 +55,9 @@ pub fn annihilator_of(
     requires { ⌜ (known ≡ determinant x y z) × Tables (now logs) (now powers) ⌝ }
     ensures { λ a. ⌜ Annihilates w x y z a ⌝ }
 {
-    let lowest = field::cube_with(determinant(w, x, y, logs, powers), logs, powers);
+    let before = determinant(w, x, y, logs, powers);
     Annihilator {
-        inverse: field::inverse_with(lowest, logs, powers),
+        inverse: field::inverse_with(before, logs, powers),
         numerator: numerator(w, x, y, z, logs, powers),
         determinant: known,
     }
@@ -65,11 +66,11 @@ pub fn annihilator_of(
 // A coefficient f less the error's, where p and q are the error's two before it.
 pub fn solved(a: Annihilator, f: u16, p: u16, q: u16, logs: &[u16; 729], powers: &[u16; 728]) -> u16
     requires { ⌜ Tables (now logs) (now powers) ⌝ }
-    ensures { λ v. ⌜ v ≡ add f (times (a .inverse) (add (times (cube (cube p)) (a .determinant)) (times (a .numerator) (cube q)))) ⌝ }
+    ensures { λ v. ⌜ v ≡ add f (times (cube (a .inverse)) (add (times (cube (cube p)) (a .determinant)) (times (a .numerator) (cube q)))) ⌝ }
 {
     let t = field::sum(
-        field::product_with(ninth_power(p, logs, powers), a.determinant, logs, powers),
+        ninth_product(a.determinant, p, logs, powers),
         field::cube_product_with(a.numerator, q, logs, powers),
     );
-    field::sum(f, field::product_with(a.inverse, t, logs, powers))
+    field::sum(f, field::cube_product_with(t, a.inverse, logs, powers))
 }

@@ -1,18 +1,18 @@
 -- Sums by six numbers whose remainders by 3 are the digits, so that remainders are taken of sums only.
--- Main: sum-is, difference-is, raise, raise-none, raise-bound, settle, combined.
+-- Main: sum-is, difference-is, place-sum, place-six, terms-small, combined.
 use mathlib.Core.Path.{_≡_, refl, sym, ap, ap₂, _∙_}
 use mathlib.Core.List.{List, [], _∷_}
-use Prim.Native.Nat.{ℕ, zero, suc, _+_, _*_, _/_, _%_, _≤_}
-use native.Mathlib.Nat.{mod-mod, mod-eq-of-lt, one-mul, mul-le-mul, mul-le-mul-right, div-div-eq-div-mul}
+use Prim.Native.Nat.{ℕ, _+_, _*_, _/_, _%_, _≤_}
+use native.Mathlib.Nat.{add-zero, add-assoc, mod-mod, one-mul, mul-le-mul-right, div-one, div-div-eq-div-mul}
 use native.Mathlib.Omega.{arith}
-use lib.ListN.{length, getD, replicate}
+use lib.ListN.{length, getD}
 use Rattle.algebra.specs.Field.{digits-of, number-of, digits, added, add, scaled, scale, minus}
 use Rattle.algebra.specs.Lists.{table, table-at}
 use Rattle.algebra.specs.Mod3.{_≈_, times-≈}
-use Rattle.algebra.specs.Digits.{digit, digits-scale, number-digits, scale-zero, scale-same}
-use Rattle.algebra.specs.Sums.{sums, rest-add, zero-plus}
+use Rattle.algebra.specs.Digits.{digits-scale, number-digits}
+use Rattle.algebra.specs.Sums.{sums, rest-add}
 use Rattle.algebra.specs.Combinations.{combine}
-use Rattle.algebra.specs.Linear.{combination}
+use Rattle.algebra.specs.Linear.{combination, combination-cons}
 
 -- A MULTIPLE OF A NUMBER MORE: its quotients go to the digits' places
 raised-by : (m a : ℕ) → List ℕ → List ℕ
@@ -33,12 +33,6 @@ by-number m a (s ∷ ss) = ap₂ (λ (d n : ℕ). d + 3 * n)
 
     others : (n : ℕ) → n ≡ (s % 3 + 3 * n) / 3
     others n = omega arith
-
-by-bound : (m a : ℕ) → m ≤ 2 → a ≤ 65535 → (ss : List ℕ) (k : ℕ) → getD (raised-by m a ss) k 0 ≤ getD ss k 0 + 131070
-unfolding raised-by
-by-bound m a p q [] k = omega arith
-by-bound m a p q (s ∷ ss) zero = omega (arith, mul-le-mul p q)
-by-bound m a p q (s ∷ ss) (suc k) = by-bound m (a / 3) p (omega arith) ss k
 
 -- SIX NUMBERS
 abbrev six : (c d e f g h : ℕ) → List ℕ
@@ -97,35 +91,41 @@ pub difference-is : (a b : ℕ)
 unfolding minus quotients
 difference-is a b = settled _ _ _ _ _ _ ∙ plus 2 a b
 
--- COMBINATIONS: six numbers are raised by one symbol after another, and settled once
-pub twice : (d x : ℕ) → d % 3 * x ≤ 2 * x
-twice d x = mul-le-mul-right x (omega arith)
+-- COMBINATIONS: what some symbols have at a place 1, 3, 9, .., each times a quotient of the number. Modulo 3 it is a digit.
+unfoldable pub place-sum : (place v : ℕ) → List ℕ → ℕ
+place-sum p v [] = 0
+place-sum p v (w ∷ ws) = w / p % 3 * v + place-sum p (v / 3) ws
 
-pub zeros-at : (n k : ℕ) → getD {A = ℕ} (replicate n 0) k 0 ≡ 0
-zeros-at zero k = refl
-zeros-at (suc n) zero = refl
-zeros-at (suc n) (suc k) = zeros-at n k
+-- they are the combination's digits: one symbol after another raises six numbers
+pub combined : (v : ℕ) (ws : List ℕ) → length ws ≤ 6
+    → place-sum 1 v ws % 3 + 3 * (place-sum 3 v ws % 3) + 9 * (place-sum 9 v ws % 3) + 27 * (place-sum 27 v ws % 3) + 81 * (place-sum 81 v ws % 3)
+    + 243 * (place-sum 243 v ws % 3) ≡ combination ws v
+unfolding place-sum combination combine
+combined v [] h = refl
+combined v (w ∷ ws) h =
+    rw (turned (w / 1) _, turned (w / 3) _, turned (w / 9) _, turned (w / 27) _, turned (w / 81) _, turned (w / 243) _, div-one w) (
+    settled _ _ _ _ _ _
+    ∙ raised-is (six _ _ _ _ _ _) refl (v % 3) w
+    ∙ ap (add (scale (v % 3) w)) (sym (settled _ _ _ _ _ _) ∙ combined (v / 3) ws (omega arith))
+    ∙ sym (combination-cons w ws v (omega arith))
+    )
+  where
+    turned : (a c : ℕ) → a % 3 * v + c ≈ c + v % 3 * a
+    turned a c = omega (arith, times-≈ (a % 3) (v % 3) v (mod-mod v 3), times-≈ (v % 3) (a % 3) a (mod-mod a 3))
 
-scale-mod : (d a : ℕ) → scale (d % 3) a ≡ scale d a
-scale-mod d a = scale-same (d % 3) d a (mod-mod d 3)
+-- the sum of six, written out
+pub place-six : (l : List ℕ) → length l ≡ 6 → (p v : ℕ)
+    → getD l 0 0 / p % 3 * v + getD l 1 0 / p % 3 * (v / 3) + getD l 2 0 / p % 3 * (v / 9) + getD l 3 0 / p % 3 * (v / 27)
+    + getD l 4 0 / p % 3 * (v / 81) + getD l 5 0 / p % 3 * (v / 243) ≡ place-sum p v l
+unfolding place-sum
+place-six l h p v = sym (ap (place-sum p v) (sym (entries l h)) ∙ simp (div-div-eq-div-mul, add-zero, ← add-assoc))
 
-module _ (l : List ℕ) (h : length l ≡ 6) where
-  pub settle : getD l 0 0 % 3 + 3 * (getD l 1 0 % 3) + 9 * (getD l 2 0 % 3) + 27 * (getD l 3 0 % 3) + 81 * (getD l 4 0 % 3) + 243 * (getD l 5 0 % 3)
-      ≡ number-of l
-  settle = settled _ _ _ _ _ _ ∙ ap number-of (entries l h)
-
-  pub raise : (d a : ℕ) → number-of (raised l (d % 3) a) ≡ add (scale d a) (number-of l)
-  raise d a = raised-is l h (d % 3) a ∙ rw scale-mod
-
-  pub raise-none : (d a : ℕ) → d % 3 ≡ 0 → number-of l ≡ add (scale d a) (number-of l)
-  raise-none d a e = sym (rw (scale-same d 0 a e, scale-zero) (zero-plus _ ∙ mod-eq-of-lt (rw (← settle) (omega arith))))
-
-  pub raise-bound : (d a : ℕ) → a ≤ 65535 → (k : ℕ) → getD (raised l (d % 3) a) k 0 ≤ getD l k 0 + 131070
-  raise-bound d a q k = rw (by-six l h (d % 3) a) at (by-bound (d % 3) a (omega arith) q l k)
-
-  pub combined : (x : ℕ)
-      → combination l x
-      ≡ add (scale x (getD l 0 0)) (add (scale (x / 3) (getD l 1 0)) (add (scale (x / 9) (getD l 2 0)) (add (scale (x / 27) (getD l 3 0))
-      (add (scale (x / 81) (getD l 4 0)) (add (scale (x / 243) (getD l 5 0)) (number-of (replicate 6 0)))))))
-  unfolding combination combine digits digits-of number-of
-  combined x = ap (combine (digit x)) (sym (entries l h)) ∙ simp (div-div-eq-div-mul, scale-mod)
+-- each of the six is small
+pub terms-small : (l : List ℕ) (p v : ℕ)
+    → (getD l 0 0 / p % 3 * v ≤ 2 * v) × (getD l 1 0 / p % 3 * (v / 3) ≤ 2 * (v / 3)) × (getD l 2 0 / p % 3 * (v / 9) ≤ 2 * (v / 9))
+    × (getD l 3 0 / p % 3 * (v / 27) ≤ 2 * (v / 27)) × (getD l 4 0 / p % 3 * (v / 81) ≤ 2 * (v / 81))
+    × (getD l 5 0 / p % 3 * (v / 243) ≤ 2 * (v / 243))
+terms-small l p v = (twice _ v, twice _ (v / 3), twice _ (v / 9), twice _ (v / 27), twice _ (v / 81), twice _ (v / 243))
+  where
+    twice : (d x : ℕ) → d % 3 * x ≤ 2 * x
+    twice d x = mul-le-mul-right x (omega arith)

@@ -1,5 +1,5 @@
 -- The tables that products and inverses read, and what they read there.
--- Main: Tables, log-small, logs-small, product-near, product-round, cube-read, cube-product-read, inverse-one, inverse-back, quotient-read.
+-- Main: Tables, log-small, logs-small, product-near, product-round, cube-product-read, inverse-one, inverse-back, quotient-read.
 use mathlib.Core.Path.{_≡_, sym, ap, ap₂, _∙_}
 use mathlib.Core.List.{List}
 use Prim.Native.Nat.{ℕ, zero, suc, _+_, _*_, _-_, _/_, _%_, _≤_, _<_}
@@ -68,7 +68,7 @@ module _ {l p : List ℕ} (t : Tables l p) where
     product-round h =
         power-read _ (omega (arith, log-small a, log-small b)) ∙ sym (power-round _) ∙ ap (power 3) (omega arith) ∙ by-logs
 
-  -- CUBES: the exponent is taken three times
+  -- PRODUCTS WITH A CUBE: its exponent is taken three times, and added to that of the other factor
   cube-by-log : (a : ℕ) → ¬ Zero a → power 3 (3 * exponent l a) ≡ cube a
   unfolding cube
   cube-by-log a n =
@@ -81,10 +81,6 @@ module _ {l p : List ℕ} (t : Tables l p) where
       thrice : 3 * log a ≡ log a + (log a + log a)
       thrice = omega arith
 
-  pub cube-read : (a : ℕ) → ¬ Zero a → getD p (3 * exponent l a % 728) 0 ≡ cube a
-  cube-read a n = power-read _ (mod-lt (3 * exponent l a) (lit< tt)) ∙ power-rest (3 * exponent l a) ∙ cube-by-log a n
-
-  -- and added to that of another factor
   pub cube-product-read : (a b : ℕ) → ¬ Zero a → ¬ Zero b → getD p ((exponent l a + 3 * exponent l b) % 728) 0 ≡ times a (cube b)
   cube-product-read a b n m =
       power-read _ (mod-lt (exponent l a + 3 * exponent l b) (lit< tt))

@@ -7,7 +7,6 @@ mod tables;
 
 pub use cubes::cube;
 pub use products::cube_product_with;
-pub use products::cube_with;
 pub use products::inverse_with;
 pub use products::logs;
 pub use products::powers;

@@ -1,4 +1,4 @@
-// Products, cubes and inverses by logarithms. Each use of a constant table copies it, so code that multiplies often takes the tables once, from
+// Products and inverses by logarithms. Each use of a constant table copies it, so code that multiplies often takes the tables once, from
 // `logs` and `powers`, and lends them to the functions that end in _with. These require that what is lent are the tables.
 ghost use mathlib.Core.Path.{_≡_};
 ghost use Rattle.algebra.specs.Field.{times, cube};
@@ -37,20 +37,7 @@ pub fn product_with(a: u16, b: u16, logs: &[u16; 729], powers: &[u16; 728]) -> u
     if n < 728 { powers[n] } else { powers[n - 728] }
 }
 
-// The exponent of a cube is three times as large.
-pub fn cube_with(a: u16, logs: &[u16; 729], powers: &[u16; 728]) -> u16
-    requires { ⌜ Tables (now logs) (now powers) ⌝ }
-    ensures { λ r. ⌜ r ≡ cube a ⌝ }
-{
-    let x = (a % 729) as usize;
-    if x == 0 {
-        return 0;
-    }
-    let n = 3 * (logs[x] as usize) % 728;
-    powers[n]
-}
-
-// a times the cube of b, by one sum of exponents.
+// a times the cube of b, by one sum of exponents: that of a cube is three times as large.
 pub fn cube_product_with(a: u16, b: u16, logs: &[u16; 729], powers: &[u16; 728]) -> u16
     requires { ⌜ Tables (now logs) (now powers) ⌝ }
     ensures { λ r. ⌜ r ≡ times a (cube b) ⌝ }

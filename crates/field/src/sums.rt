@@ -1,10 +1,10 @@
 // Sums of symbols, digit by digit, and combinations with digits as coefficients. The digit of a at 3^i is the remainder of a / 3^i by 3, and
 // remainders are taken of sums only. The six digits are written out, since a loop would cost more than the sum.
 ghost use mathlib.Core.Path.{_≡_};
-ghost use Prim.Native.Nat.{ℕ, _+_, _≤_};
-ghost use lib.ListN.{getD};
-ghost use Rattle.algebra.specs.Field.{«number-of», add, scale, minus};
+ghost use Prim.Native.Nat.{_≤_};
+ghost use Rattle.algebra.specs.Field.{add, minus};
 ghost use Rattle.algebra.specs.Linear.{combination};
+ghost use Rattle.field.specs.DigitSums.{«place-sum»};
 
 pub fn sum(a: u16, b: u16) -> u16
     ensures { λ r. ⌜ r ≡ add a b ⌝ }
@@ -35,49 +35,29 @@ pub fn difference(a: u16, b: u16) -> u16
     r as u16
 }
 
-// A multiple of a symbol more. A symbol under way is six numbers whose remainders by 3 are its digits: they are settled once, at the end. Five
-// symbols, at most twice 65535 each, came before. A digit 0 costs nothing.
-fn raised(s: [u32; 6], d: u16, a: u16) -> [u32; 6]
-    requires { ⌜ ((k : ℕ) → getD s k 0 ≤ 655350) ⌝ }
-    ensures same { λ r. ⌜ number-of r ≡ add (scale d a) (number-of s) ⌝ }
-    ensures bound { λ r. ⌜ ((k : ℕ) → getD r k 0 ≤ getD s k 0 + 131070) ⌝ }
+// What six symbols have at a place 1, 3, 9, .. or 243, each times its quotient of x: modulo 3 it is a digit of their combination.
+fn place_sum(w: [u16; 6], x: u16, place: u16) -> u32
+    requires { ⌜ 1 ≤ place ⌝ }
+    ensures { λ r. ⌜ r ≡ place-sum place x w ⌝ }
 {
-    if d % 3 == 0 {
-        return s;
-    }
-    let m = (d % 3) as u32;
-    let x = a as u32;
-    [
-        s[0] + m * x,
-        s[1] + m * (x / 3),
-        s[2] + m * (x / 9),
-        s[3] + m * (x / 27),
-        s[4] + m * (x / 81),
-        s[5] + m * (x / 243),
-    ]
+    let v = x as u32;
+    ((w[0] / place % 3) as u32) * v
+        + ((w[1] / place % 3) as u32) * (v / 3)
+        + ((w[2] / place % 3) as u32) * (v / 9)
+        + ((w[3] / place % 3) as u32) * (v / 27)
+        + ((w[4] / place % 3) as u32) * (v / 81)
+        + ((w[5] / place % 3) as u32) * (v / 243)
 }
 
-// The symbol that six numbers stand for.
-fn settled(s: [u32; 6]) -> u16
-    ensures { λ r. ⌜ r ≡ number-of s ⌝ }
-{
-    let r = s[0] % 3
-        + 3 * (s[1] % 3)
-        + 9 * (s[2] % 3)
-        + 27 * (s[3] % 3)
-        + 81 * (s[4] % 3)
-        + 243 * (s[5] % 3);
-    r as u16
-}
-
+// Where the symbols are constants, so are their digits, and the compiler leaves out those that are 0.
 pub fn combination(w: [u16; 6], x: u16) -> u16
     ensures { λ r. ⌜ r ≡ combination w x ⌝ }
 {
-    let s5 = raised([0u32; 6], x / 243, w[5]);
-    let s4 = raised(s5, x / 81, w[4]);
-    let s3 = raised(s4, x / 27, w[3]);
-    let s2 = raised(s3, x / 9, w[2]);
-    let s1 = raised(s2, x / 3, w[1]);
-    let s0 = raised(s1, x, w[0]);
-    settled(s0)
+    let r = place_sum(w, x, 1) % 3
+        + 3 * (place_sum(w, x, 3) % 3)
+        + 9 * (place_sum(w, x, 9) % 3)
+        + 27 * (place_sum(w, x, 27) % 3)
+        + 81 * (place_sum(w, x, 81) % 3)
+        + 243 * (place_sum(w, x, 243) % 3);
+    r as u16
 }

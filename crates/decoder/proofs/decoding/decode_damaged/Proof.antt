@@ -21,17 +21,20 @@ returns c =
     )
 
 returns-2 : tie.Need-returns-2
-returns-2 c = rw (c .before .before .before .if2 .taken) (c .decode-two .ensures)
+returns-2 c = rw (c .before .before .before .if2 .taken) (c .decode-one .ensures)
 
 returns-3 : tie.Need-returns-3
-unfolding at
-returns-3 c =
-    let s = c .before .before .before .before .before .before .before .before in
-    rw (c .before .before .before .if3 .taken) (c .find-single .ensures .0 ∙ three-single (s .args .card) _ (s .pre .3) (s .pre .2), c .find-single .ensures .1)
+returns-3 c = rw (c .before .before .before .if3 .taken) (c .decode-two .ensures)
 
 returns-4 : tie.Need-returns-4
+unfolding at
 returns-4 c =
-    let s = c .before .before .before .before .before .before .before .before in
+    let s = c .before .before .before .before .before .before .before .before .before in
+    rw (c .before .before .before .if4 .taken) (c .find-single .ensures .0 ∙ three-single (s .args .card) _ (s .pre .3) (s .pre .2), c .find-single .ensures .1)
+
+returns-5 : tie.Need-returns-5
+returns-5 c =
+    let s = c .before .before .before .before .before .before .before .before .before in
     let four : s .args .k ≡ 4 = omega arith in
     rw four (c .decode-four .ensures)
 
@@ -45,8 +48,10 @@ decode-damaged-spec =
     (λ c κs. search needs)
     (λ c κs. search needs)
     returns-2
-    (search needs)
     (λ c κs. search needs)
     returns-3
+    (search needs)
     (λ c κs. search needs)
-    returns-4)
+    returns-4
+    (λ c κs. search needs)
+    returns-5)

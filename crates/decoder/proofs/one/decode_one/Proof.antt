@@ -1,34 +1,36 @@
--- `decoder::one::decode_one` meets its contract: the card is the word that its first symbol shows, or its spectrum decides.
-use mathlib.Core.Path.{sym, _∙_}
+-- `decoder::one::decode_one` meets its contract: the determinant decides whether the error has rank at most 1, or a message is checked.
+use mathlib.Core.Path.{_∙_}
 use lib.Dec.{lit≤}
-use Rattle.decoder.specs.Doubles.{parts-message}
+use Rattle.rank.specs.Definitions.{at}
+use Rattle.decoder.specs.Doubles.{double-message, one-single, one-double}
 use borrow.Author.Needs.{needs}
 use Rattle.decoder.proofs.one.decode_one.Statement.{statement}
 use Rattle.decoder.proofs.one.decode_one.Tie as tie
 
-word-of-requires : tie.Need-word-of-requires
-word-of-requires c κs = (lit≤ tt, lit≤ tt, parts-message _ _ _ _ (c .before .low .ensures) (c .high .ensures))
+returns : tie.Need-returns
+unfolding at
+returns c =
+    let d = c .before .before in
+    let s = d .before in
+    (c .find-single .ensures .0 ∙ one-single (s .args .card) (s .pre .0) _ (s .pre .1) _ (d .determinant .ensures) (c .before .if1 .taken), c .find-single .ensures .1)
 
-undamaged-requires : tie.Need-undamaged-requires
-undamaged-requires c κs =
-    let w = c .before .before in
-    let h = w .before in
-    let s = h .before .before in
-    (lit≤ tt, lit≤ tt, s .pre, parts-message _ _ _ _ (h .before .low .ensures) (h .high .ensures), sym (w .word-of .ensures) ∙ c .before .same .ensures (c .if1 .taken))
+double-requires : tie.Need-double-requires
+unfolding at
+double-requires c κs = (c .annihilator-of .ensures, search needs)
+
+near-requires : tie.Need-near-requires
+near-requires c κs = (lit≤ tt, lit≤ tt, rw (c .double .ensures) (double-message (at _)))
+
+returns-2 : tie.Need-returns-2
+unfolding at
+returns-2 c =
+    let a = c .before .before in
+    let d = a .before .before in
+    let s = d .before in (
+      c .near .ensures .0
+          ∙ one-double (s .args .card) (s .pre .0) _ (s .pre .1) _ (d .determinant .ensures) (a .before .if1 .left) _ (c .before .double .ensures),
+      c .near .ensures .1,
+    )
 
 pub decode-one-spec : {M : Type 1} → statement M
-decode-one-spec =
-    tie.close
-    (tie.spec
-    (search needs)
-    (λ c κs. search needs)
-    (λ c κs. search needs)
-    word-of-requires
-    (λ c κs. search needs)
-    undamaged-requires
-    (λ c. search needs)
-    (λ c κs. search needs)
-    (λ c κs. search needs)
-    (λ c κs. search needs)
-    (λ c κs. search needs)
-    (λ c. search needs))
+decode-one-spec = tie.close (tie.spec (search needs) (search needs) (search needs) (λ c κs. search needs) (search needs) (λ c κs. search needs) returns (search needs) (search needs) (search needs) (search needs) (λ c κs. search needs) double-requires near-requires returns-2)

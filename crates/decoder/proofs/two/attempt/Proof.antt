@@ -37,7 +37,7 @@ proposal c =
     let x = d .before in
     let s = x .before in
     let f = inner-by (spectrum (s .args .card)) (s .args .s) (s .pre .1) (s .args .a) _ _ (x .small-symbol .ensures) (d .value-at .ensures) _ (m .inner-coefficient .ensures) in
-    proposed-is (spectrum (s .args .card)) (s .args .a) _ _ _ _ _ (last h) f (o .low .ensures) (n .high2 .ensures) (c .low2 .ensures ∙ ap low (c .before .cube-with .ensures))
+    proposed-is (spectrum (s .args .card)) (s .args .a) _ _ _ _ _ (last h) f (o .low .ensures) (n .high2 .ensures) (c .low2 .ensures ∙ ap low (c .before .cube .ensures))
 
 returns : tie.Need-returns
 returns c =

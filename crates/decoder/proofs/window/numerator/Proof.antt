@@ -1,4 +1,4 @@
--- `decoder::window::numerator` meets its contract: two products with ninth powers and their difference.
+-- `decoder::window::numerator` meets its contract: two products with ninth powers, and their difference.
 use Rattle.coding.specs.Window.{numerator}
 use borrow.Author.Needs.{needs}
 use Rattle.decoder.proofs.window.numerator.Statement.{statement}
@@ -9,4 +9,4 @@ unfolding numerator
 returns c = cc
 
 pub numerator-spec : {M : Type 1} → statement M
-numerator-spec = tie.close (tie.spec (λ c κs. search needs) (λ c κs. search needs) (λ c κs. search needs) (λ c κs. search needs) (λ c κs. search needs) returns)
+numerator-spec = tie.close (tie.spec (λ c κs. search needs) (λ c κs. search needs) (λ c κs. search needs) returns)
