@@ -10,8 +10,8 @@ use lib.Dec.{eqb, lit<}
 use borrow.Author.Tests.{eq-eqb, ne-eqb}
 use Rattle.algebra.specs.Field.{times, power, cube, risen}
 use Rattle.algebra.specs.Sums.{Zero}
-use Rattle.algebra.specs.Linear.{computing, at-zero, at-rest}
-use Rattle.algebra.specs.Products.{cube-linear, cube-times, times-comm, times-assoc, times-one, times-zero, rest-times, times-whole}
+use Rattle.algebra.specs.Linear.{computing}
+use Rattle.algebra.specs.Products.{cube-linear, none-cube, cube-times, times-comm, times-assoc, times-one, times-zero, rest-times, times-whole}
 use Rattle.algebra.specs.Powers.{log, log-below, power-below, power-log, power-plus, power-728}
 
 -- the inverse of a symbol; that of 0 is 0
@@ -60,8 +60,8 @@ inverse-only a r n e = sym (divide a r n) ∙ ap (times (inverse a)) e ∙ times
 pub inverse-cube : (a : ℕ) → cube (inverse a) ≡ inverse (cube a)
 unfolding computing
 inverse-cube a = elim (ℕ-discrete (a % 729) 0) [
-  | yes z ↦ ap cube (inverse-zero a z) ∙ at-zero cube-linear
-      ∙ sym (inverse-zero (cube a) (ap (λ (x : ℕ). x % 729) (sym (at-rest cube-linear a) ∙ ap cube z ∙ at-zero cube-linear)))
+  | yes z ↦ none-cube (inverse a) (ap (λ (x : ℕ). x % 729) (inverse-zero a z))
+      ∙ sym (inverse-zero (cube a) (ap (λ (x : ℕ). x % 729) (none-cube a z)))
   | no n ↦ sym (mod-eq-of-lt (cube-linear .below (inverse a)))
       ∙ inverse-only (cube a) (cube (inverse a)) (risen-not-zero 1 a n) (sym (cube-times a (inverse a)) ∙ ap cube (times-inverse a n))
 ]

@@ -8,7 +8,7 @@ use lib.ListN.{length, take, getD}
 use Rattle.algebra.specs.Field.{digits-of, digits, added, number-of, add, scale, reduced, shifted, times-from, times, cube, risen}
 use Rattle.algebra.specs.Lists.{cons}
 use Rattle.algebra.specs.Digits.{digits-rest}
-use Rattle.algebra.specs.Sums.{sums}
+use Rattle.algebra.specs.Sums.{Zero, sums}
 use Rattle.algebra.specs.Combinations.{combine}
 use Rattle.algebra.specs.Linear.{Linear, at-zero, at-rest, at-scale, composed, summed, none-linear, scale-linear, rest-linear}
 use Rattle.algebra.specs.Linear.{combination, combination-linear, computing, images, agree, like, by-test}
@@ -110,6 +110,9 @@ pub ruleset ring = (sums, products, times-one, one-times, times-zero, zero-times
 pub cube-linear : Linear cube
 unfolding cube
 cube-linear = record { below = λ v. right v .below (times v v); sum = λ a b. simp ring }
+
+pub none-cube : (a : ℕ) → Zero a → cube a ≡ 0
+none-cube a z = sym (at-rest cube-linear a) ∙ ap cube z ∙ at-zero cube-linear
 
 pub cube-times : (a b : ℕ) → cube (times a b) ≡ times (cube a) (cube b)
 unfolding cube

@@ -16,7 +16,7 @@ use Rattle.algebra.specs.Tests.{below-six}
 use Rattle.algebra.specs.Sums.{Zero, add-whole, minus-none}
 use Rattle.algebra.specs.Combinations.{Span, span-zero, Independent}
 use Rattle.algebra.specs.Linear.{at-rest, images}
-use Rattle.algebra.specs.Products.{ring, products, cube-linear, cube-times, times-comm, times-zero, zero-times, times-whole}
+use Rattle.algebra.specs.Products.{ring, products, cube-linear, none-cube, cube-times, times-comm, times-zero, zero-times, times-whole}
 use Rattle.algebra.specs.Inverses.{inverse, divide, no-divisors, times-not-zero}
 use Rattle.algebra.specs.Polynomials.{ev, lower, lower-linear, lower-self}
 use Rattle.rank.specs.Definitions.{is-card, rank}
@@ -25,7 +25,7 @@ use Rattle.coding.specs.Code.{Near}
 use Rattle.coding.specs.Spectrum.{spectrum}
 use Rattle.coding.specs.Errors.{errors, errors-beyond}
 use Rattle.coding.specs.Annihilator.{Annihilated, value-spanned, on-span, cubed, none-everywhere, near-annihilated}
-use Rattle.coding.specs.Window.{zero-factor, none-cube, cube-none, cube-minus, determinant}
+use Rattle.coding.specs.Window.{zero-factor, cube-none, cube-minus, determinant}
 
 -- THE NEXT COEFFICIENT of an error of rank 1 after x, if v comes after u
 unfoldable pub next-error : (u v x : ℕ) → ℕ

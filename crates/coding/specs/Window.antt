@@ -7,17 +7,14 @@ use native.Mathlib.Decide.{ℕ-discrete}
 use native.Mathlib.Omega.{arith}
 use Rattle.algebra.specs.Field.{add, minus, times, cube, risen}
 use Rattle.algebra.specs.Sums.{Zero, add-whole}
-use Rattle.algebra.specs.Linear.{at-minus, at-rest, at-zero}
-use Rattle.algebra.specs.Products.{ring, cube-linear, cube-times, times-comm, times-zero, zero-times, rest-times}
+use Rattle.algebra.specs.Linear.{at-minus}
+use Rattle.algebra.specs.Products.{ring, cube-linear, none-cube, cube-times, times-comm, times-zero, zero-times, rest-times}
 use Rattle.algebra.specs.Inverses.{inverse, divide, times-not-zero, risen-not-zero}
 use Rattle.coding.specs.Annihilator.{Annihilated}
 
--- products and cubes that are 0, and cubes of differences
+-- a product that is 0, a cube that is 0, and cubes of differences
 pub zero-factor : (a b : ℕ) → Zero a → times a b ≡ 0
 zero-factor a b z = sym (rest-times a b) ∙ ap (λ (x : ℕ). times x b) z ∙ zero-times b
-
-pub none-cube : (x : ℕ) → Zero x → cube x ≡ 0
-none-cube x z = sym (at-rest cube-linear x) ∙ ap cube z ∙ at-zero cube-linear
 
 pub cube-none : (x : ℕ) → Zero (cube x) → Zero x
 unfolding risen

@@ -10,7 +10,7 @@ use lib.ListN.{getD}
 use Rattle.algebra.specs.Field.{times, power, cube}
 use Rattle.algebra.specs.Lists.{table, at-table}
 use Rattle.algebra.specs.Sums.{Zero}
-use Rattle.algebra.specs.Linear.{at-rest, at-zero}
+use Rattle.algebra.specs.Linear.{at-rest}
 use Rattle.algebra.specs.Products.{cube-linear, times-rest, rest-times, zero-times, times-zero}
 use Rattle.algebra.specs.Powers.{powers, place, log, log-below, power-at, power-log, power-plus, power-round, power-728, times-logs}
 use Rattle.algebra.specs.Inverses.{inverse, inverse-power}
@@ -38,9 +38,6 @@ power-rounds (suc q) n = ap (power 3) (omega arith) ∙ power-round (n + q * 728
 
 power-rest : (n : ℕ) → power 3 (n % 728) ≡ power 3 n
 power-rest n = sym (power-rounds (n / 728) (n % 728)) ∙ ap (power 3) (omega arith)
-
-pub zero-cube : (a : ℕ) → Zero a → 0 ≡ cube a
-zero-cube a z = sym (sym (at-rest cube-linear a) ∙ ap cube z ∙ at-zero cube-linear)
 
 module _ {l p : List ℕ} (t : Tables l p) where
   log-read : (a : ℕ) → exponent l a ≡ log a

@@ -3,8 +3,8 @@ use mathlib.Core.Path.{sym, ap, _∙_}
 use native.Mathlib.Omega.{arith}
 use borrow.Author.Needs.{needs}
 use Rattle.algebra.specs.Field.{times, cube}
-use Rattle.algebra.specs.Products.{times-zero}
-use Rattle.field.specs.Tables.{zero-left, zero-cube, logs-small, cube-product-read}
+use Rattle.algebra.specs.Products.{none-cube, times-zero}
+use Rattle.field.specs.Tables.{zero-left, logs-small, cube-product-read}
 use Rattle.field.proofs.products.cube_product_with.Statement.{statement}
 use Rattle.field.proofs.products.cube_product_with.Tie as tie
 
@@ -12,7 +12,7 @@ returns : tie.Need-returns
 returns c = let s = c .before in zero-left (s .args .a) (cube (s .args .b)) (c .if1 .taken)
 
 returns-2 : tie.Need-returns-2
-returns-2 c = let s = c .before .before in sym (times-zero (s .args .a)) ∙ ap (times (s .args .a)) (zero-cube (s .args .b) (c .if2 .taken))
+returns-2 c = let s = c .before .before in sym (ap (times (s .args .a)) (none-cube (s .args .b) (c .if2 .taken)) ∙ times-zero (s .args .a))
 
 returns-3 : tie.Need-returns-3
 returns-3 c =
