@@ -17,7 +17,8 @@
 
    THREADS. The library has no state. Any number of threads may call it at once, each with memory lent as above.
 
-   STACK. No call was seen to use more than 4.5 KiB of stack: measured with cards of every damage and full books, not proved. 8 KiB leave room.
+   STACK. No call was seen to use more than 4.8 KiB of stack: measured with cards of every damage and with dead lines, and full books, not proved.
+   8 KiB leave room.
 
    PLATFORM. The archive is target/staticlib/libcapi.a, which `rt staticlib capi` writes: position-independent code for Linux on any x86-64
    processor, with the System V calling convention. It needs memcpy, memmove and memset of a C library at most, calls nothing else, and leaves
@@ -35,22 +36,23 @@ extern "C" {
 /* The version of this interface. As long as MAJOR is 0, MINOR is raised by every change of what a call takes, answers or refuses and of every
    name or number below, PATCH by all other changes. The archive holds no version of its own. */
 #define LUCETCORAL_VERSION_MAJOR 0
-#define LUCETCORAL_VERSION_MINOR 3
+#define LUCETCORAL_VERSION_MINOR 4
 #define LUCETCORAL_VERSION_PATCH 0
 
 /* What a function returns (section 7). */
 enum lucetcoral_refusal {
-    LUCETCORAL_DONE = 0,         /* no refusal */
-    LUCETCORAL_DIMENSION = 1,    /* k is not 1 to 5 */
-    LUCETCORAL_LENGTH = 2,       /* a list has the wrong length */
-    LUCETCORAL_RANGE = 3,        /* a symbol is above 728, or a value of a message above 26 */
-    LUCETCORAL_UNDECODABLE = 4,  /* no word of the code is near the card */
-    LUCETCORAL_BOOK_SIZE = 5,    /* a book has more than 65,536 bytes, or too few for its contents */
-    LUCETCORAL_TUNE_NUMBER = 6,  /* a tune number is not 1 to 9,999, or not above the one before it */
-    LUCETCORAL_LAYOUT = 7,       /* a tune has no cards, or the bodies do not adjoin from the contents to the end of the book */
-    LUCETCORAL_NO_SUCH_TUNE = 8, /* the book has no tune of that number, or at that place */
-    LUCETCORAL_NO_SUCH_CARD = 9, /* the card number is 0, or past the last */
-    LUCETCORAL_STRIKE_FIELD = 10 /* a bell or a force is above 26, or a delay above 728 */
+    LUCETCORAL_DONE = 0,          /* no refusal */
+    LUCETCORAL_DIMENSION = 1,     /* k is not 1 to 5 */
+    LUCETCORAL_LENGTH = 2,        /* a list has the wrong length */
+    LUCETCORAL_RANGE = 3,         /* a symbol is above 728, a value of a message above 26, or a mask above 63 */
+    LUCETCORAL_UNDECODABLE = 4,   /* no word of the code is near the card */
+    LUCETCORAL_BOOK_SIZE = 5,     /* a book has more than 65,536 bytes, or too few for its contents */
+    LUCETCORAL_TUNE_NUMBER = 6,   /* a tune number is not 1 to 9,999, or not above the one before it */
+    LUCETCORAL_LAYOUT = 7,        /* a tune has no cards, or the bodies do not adjoin from the contents to the end of the book */
+    LUCETCORAL_NO_SUCH_TUNE = 8,  /* the book has no tune of that number, or at that place */
+    LUCETCORAL_NO_SUCH_CARD = 9,  /* the card number is 0, or past the last */
+    LUCETCORAL_STRIKE_FIELD = 10, /* a bell or a force is above 26, or a delay above 728 */
+    LUCETCORAL_DEAD_LINES = 11    /* more lines are dead than 6 - k */
 };
 
 /* The code (sections 1 to 4). */
@@ -62,6 +64,8 @@ enum lucetcoral_refusal {
 #define LUCETCORAL_MESSAGE_VALUES(k) (2 * (k))     /* values of a message for k from 1 to 5: at most 10 */
 #define LUCETCORAL_TEST_VALUES(k) (12 - 2 * (k))   /* test values for k from 1 to 5: at most 10 */
 #define LUCETCORAL_RADIUS(k) ((6 - (k)) / 2)       /* the greatest rank of damage that is undone, for k from 1 to 5 */
+#define LUCETCORAL_MASK_MAX 63                     /* of a mask of dead rows or columns: bit i, worth 2^i, is line i */
+#define LUCETCORAL_DEAD_LINES_MAX(k) (6 - (k))     /* dead rows and columns together, for k from 1 to 5 */
 
 /* Tune books (section 5). */
 #define LUCETCORAL_BOOK_MAX 65536 /* bytes of a book */
@@ -93,6 +97,12 @@ uint32_t lucetcoral_syndrome(uint32_t k, const uint16_t *received, size_t receiv
    word and card. 1, 2, 3, 4. */
 uint32_t lucetcoral_decode(uint32_t k, const uint16_t *received, size_t received_len, uint16_t *word, size_t word_len, uint16_t *message,
                            size_t message_len, uint32_t *distance);
+
+/* Decode with dead lines (8.17): as Decode, where the rows and columns of two masks count for nothing. They are struck out of the difference between
+   word and card, and `rank` is the rank of what is left: twice that and the number of dead lines are at most 6 - k. There is never a second such
+   word, and with both masks 0 it is Decode. Row i is the digit worth 3^i of every symbol, column j is symbol j. 1, 2, 3, 11, 4. */
+uint32_t lucetcoral_decode_dead(uint32_t k, const uint16_t *received, size_t received_len, uint32_t dead_rows, uint32_t dead_columns, uint16_t *word,
+                                size_t word_len, uint16_t *message, size_t message_len, uint32_t *rank);
 
 /* Open (8.5): the number of tunes of a book. 5, 6, 7. */
 uint32_t lucetcoral_open(const uint8_t *book, size_t book_len, uint32_t *tunes);

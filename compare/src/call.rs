@@ -2,20 +2,21 @@
 //! reference, and by another implementation.
 //!
 //! Both can be printed as one line of decimal numbers. A call's line is the
-//! number of the operation (1 to 12, in the order of `Call`), then its number
-//! if it has one (k, a tune's or a card's number, a place of the contents),
-//! then its lists, each as its length and its values. An outcome's line is the
-//! status (0 or the refusal), then the numbers given back if the status is 0,
-//! then the final values of the lists that the call lends to be filled,
-//! without their lengths.
+//! number of the operation (1 to 13, in the order of `Call`), then its numbers
+//! if it has any (k, masks, a tune's or a card's number, a place of the
+//! contents), then its lists, each as its length and its values. An outcome's
+//! line is the status (0 or the refusal), then the numbers given back if the
+//! status is 0, then the final values of the lists that the call lends to be
+//! filled, without their lengths.
 
 use crate::lent::{reading, Lent, UNTOUCHED};
 use crate::library::Library;
 use crate::refusal::Refusal;
-use crate::{book, code, writer};
+use crate::{book, code, dead, writer};
 
-/// Lists to be filled (`word`, `values`, the `message` of `Decode`, and the
-/// `book` of `WriteBook`) are given with what they hold before.
+/// Lists to be filled (`word`, `values`, the `message` of `Decode` and
+/// `DecodeDead`, and the `book` of `WriteBook`) are given with what they hold
+/// before.
 #[derive(Clone, Debug)]
 pub enum Call {
     Encode {
@@ -67,6 +68,14 @@ pub enum Call {
     BookSize {
         counts: Vec<u16>,
     },
+    DecodeDead {
+        k: u32,
+        dead_rows: u32,
+        dead_columns: u32,
+        received: Vec<u16>,
+        word: Vec<u16>,
+        message: Vec<u16>,
+    },
 }
 
 #[derive(Clone, PartialEq, Eq, Debug)]
@@ -83,9 +92,9 @@ type Answer = (Vec<u32>, Vec<Vec<u16>>);
 
 impl Call {
     pub fn line(&self) -> String {
-        let (operation, number, lists) = self.parts();
+        let (operation, parameters, lists) = self.parts();
         let mut numbers = vec![operation];
-        numbers.extend(number);
+        numbers.extend(parameters);
         for list in lists {
             numbers.push(list.len() as u32);
             numbers.extend(list);
@@ -93,27 +102,27 @@ impl Call {
         decimal(numbers)
     }
 
-    fn parts(&self) -> (u32, Option<u32>, Vec<Vec<u32>>) {
+    fn parts(&self) -> (u32, Vec<u32>, Vec<Vec<u32>>) {
         match self {
-            Call::Encode { k, message, word } => (1, Some(*k), vec![wide(message), wide(word)]),
-            Call::Weight { symbols } => (2, None, vec![wide(symbols)]),
+            Call::Encode { k, message, word } => (1, vec![*k], vec![wide(message), wide(word)]),
+            Call::Weight { symbols } => (2, vec![], vec![wide(symbols)]),
             Call::Syndrome {
                 k,
                 received,
                 values,
-            } => (3, Some(*k), vec![wide(received), wide(values)]),
+            } => (3, vec![*k], vec![wide(received), wide(values)]),
             Call::Decode {
                 k,
                 received,
                 word,
                 message,
-            } => (4, Some(*k), vec![wide(received), wide(word), wide(message)]),
-            Call::Open { book } => (5, None, vec![wide(book)]),
-            Call::TuneBody { number, book } => (6, Some(*number), vec![wide(book)]),
-            Call::ReadCard { number, body } => (7, Some(*number), vec![wide(body)]),
-            Call::TotalDelay { body } => (8, None, vec![wide(body)]),
-            Call::DamagedCard { body } => (9, None, vec![wide(body)]),
-            Call::TuneAt { place, book } => (10, Some(*place), vec![wide(book)]),
+            } => (4, vec![*k], vec![wide(received), wide(word), wide(message)]),
+            Call::Open { book } => (5, vec![], vec![wide(book)]),
+            Call::TuneBody { number, book } => (6, vec![*number], vec![wide(book)]),
+            Call::ReadCard { number, body } => (7, vec![*number], vec![wide(body)]),
+            Call::TotalDelay { body } => (8, vec![], vec![wide(body)]),
+            Call::DamagedCard { body } => (9, vec![], vec![wide(body)]),
+            Call::TuneAt { place, book } => (10, vec![*place], vec![wide(book)]),
             Call::WriteBook {
                 numbers,
                 counts,
@@ -121,9 +130,21 @@ impl Call {
                 book,
             } => {
                 let lists = vec![wide(numbers), wide(counts), wide(strikes), wide(book)];
-                (11, None, lists)
+                (11, vec![], lists)
             }
-            Call::BookSize { counts } => (12, None, vec![wide(counts)]),
+            Call::BookSize { counts } => (12, vec![], vec![wide(counts)]),
+            Call::DecodeDead {
+                k,
+                dead_rows,
+                dead_columns,
+                received,
+                word,
+                message,
+            } => {
+                let numbers = vec![*k, *dead_rows, *dead_columns];
+                let lists = vec![wide(received), wide(word), wide(message)];
+                (13, numbers, lists)
+            }
         }
     }
 
@@ -163,11 +184,7 @@ impl Call {
                 received,
                 word,
                 message,
-            } => {
-                let decoded = code::decode(*k, received, word.len(), message.len())?;
-                let lists = vec![decoded.word.to_vec(), decoded.message];
-                (vec![decoded.distance], lists)
-            }
+            } => decoded(code::decode(*k, received, word.len(), message.len())?),
             Call::Open { book } => (vec![book::open(book)?], vec![]),
             Call::TuneBody { number, book } => {
                 let body = book::tune_body(book, *number)?;
@@ -190,6 +207,19 @@ impl Call {
                 (vec![], vec![wide(&book)])
             }
             Call::BookSize { counts } => (vec![writer::book_size(counts)? as u32], vec![]),
+            Call::DecodeDead {
+                k,
+                dead_rows: rows,
+                dead_columns: columns,
+                received,
+                word,
+                message,
+            } => {
+                let (word, message) = (word.len(), message.len());
+                decoded(dead::decode_dead(
+                    *k, received, *rows, *columns, word, message,
+                )?)
+            }
         })
     }
 
@@ -197,7 +227,9 @@ impl Call {
         match self {
             Call::Encode { word, .. } => vec![word.clone()],
             Call::Syndrome { values, .. } => vec![values.clone()],
-            Call::Decode { word, message, .. } => vec![word.clone(), message.clone()],
+            Call::Decode { word, message, .. } | Call::DecodeDead { word, message, .. } => {
+                vec![word.clone(), message.clone()]
+            }
             Call::WriteBook { book, .. } => vec![wide(book)],
             _ => vec![],
         }
@@ -294,6 +326,23 @@ impl Call {
                 let size = u32::try_from(size).unwrap_or(u32::MAX);
                 outcome(status, &[size], vec![])
             }
+            Call::DecodeDead {
+                k,
+                dead_rows: rows,
+                dead_columns: columns,
+                received,
+                word,
+                message,
+            } => {
+                let (mut word, mut message) = (Lent::new(word), Lent::new(message));
+                let mut rank = UNTOUCHED;
+                let status = reading(self, received, |r| {
+                    let (word, message) = (word.list(), message.list());
+                    L::decode_dead(*k, r, *rows, *columns, word, message, &mut rank)
+                });
+                let lists = vec![word.values(self), message.values(self)];
+                outcome(status, &[rank], lists)
+            }
         }
     }
 
@@ -322,6 +371,12 @@ impl Outcome {
         numbers.extend(self.lists.iter().flatten().map(|value| u32::from(*value)));
         decimal(numbers)
     }
+}
+
+/// The answer of a decoding.
+fn decoded(decoded: code::Decoded) -> Answer {
+    let lists = vec![decoded.word.to_vec(), decoded.message];
+    (vec![decoded.distance], lists)
 }
 
 fn wide<T: Copy + Into<U>, U>(list: &[T]) -> Vec<U> {

@@ -34,6 +34,18 @@ mod raw {
             message_len: usize,
             distance: *mut u32,
         ) -> u32;
+        pub fn lucetcoral_decode_dead(
+            k: u32,
+            received: *const u16,
+            received_len: usize,
+            dead_rows: u32,
+            dead_columns: u32,
+            word: *mut u16,
+            word_len: usize,
+            message: *mut u16,
+            message_len: usize,
+            rank: *mut u32,
+        ) -> u32;
         pub fn lucetcoral_open(book: *const u8, book_len: usize, tunes: *mut u32) -> u32;
         pub fn lucetcoral_tune_body(
             book: *const u8,
@@ -121,6 +133,31 @@ impl Library for Proved {
                 message.as_mut_ptr(),
                 message.len(),
                 distance,
+            )
+        }
+    }
+
+    fn decode_dead(
+        k: u32,
+        received: &[u16],
+        dead_rows: u32,
+        dead_columns: u32,
+        word: &mut [u16],
+        message: &mut [u16],
+        rank: &mut u32,
+    ) -> u32 {
+        unsafe {
+            raw::lucetcoral_decode_dead(
+                k,
+                received.as_ptr(),
+                received.len(),
+                dead_rows,
+                dead_columns,
+                word.as_mut_ptr(),
+                word.len(),
+                message.as_mut_ptr(),
+                message.len(),
+                rank,
             )
         }
     }

@@ -16,7 +16,8 @@ pub type Card = [u16; 6];
 pub struct Decoded {
     pub word: Card,
     pub message: Vec<u16>,
-    /// The rank of the difference between the word and the received card.
+    /// The rank of the difference between the word and the received card, or
+    /// of what is left of it without dead lines.
     pub distance: u32,
 }
 
@@ -49,17 +50,27 @@ pub fn decode(
     word_len: usize,
     message_len: usize,
 ) -> Result<Decoded, Refusal> {
-    let k = parameter(k)?;
-    length(received.len(), 6)?;
-    length(word_len, 6)?;
-    length(message_len, 2 * k)?;
-    let received = checked_card(received)?;
+    let (k, received) = decode_arguments(k, received, word_len, message_len)?;
     match k {
         1 => decode_by_messages(k, &received),
         2 => decode_by_index(square(&received)),
         _ => decode_by_errors(k, square(&received)),
     }
     .ok_or(Refusal::Undecodable)
+}
+
+/// The tests that every decoding begins with.
+pub(crate) fn decode_arguments(
+    k: u32,
+    received: &[u16],
+    word_len: usize,
+    message_len: usize,
+) -> Result<(usize, Card), Refusal> {
+    let k = parameter(k)?;
+    length(received.len(), 6)?;
+    length(word_len, 6)?;
+    length(message_len, 2 * k)?;
+    Ok((k, checked_card(received)?))
 }
 
 /// The largest rank of damage that is always decoded.
@@ -165,7 +176,7 @@ fn residue(k: usize, card: Square) -> Digits {
 }
 
 /// The message of a word of the code.
-fn message_of(k: usize, word: Square) -> Vec<u16> {
+pub(crate) fn message_of(k: usize, word: Square) -> Vec<u16> {
     let coefficients = interpolate(word);
     let in_small_field = |x| small_number(x).expect("a word's coefficient");
     let mut message = vec![in_small_field(coefficients[0])];
@@ -214,7 +225,7 @@ fn test_values(k: usize, card: &Card) -> Vec<u16> {
 
 /// The words of all messages, by the messages' numbers (see `message_at`).
 /// Words are sums of those of the single values.
-fn all_words(k: usize) -> &'static [Square] {
+pub(crate) fn all_words(k: usize) -> &'static [Square] {
     static WORDS: [OnceLock<Vec<Square>>; 3] = [const { OnceLock::new() }; 3];
     WORDS[k].get_or_init(|| {
         (0..2 * k).fold(vec![Digits::ZERO], |words, place| {
@@ -226,7 +237,7 @@ fn all_words(k: usize) -> &'static [Square] {
 }
 
 /// The words of the messages with any value at one place and 0 elsewhere.
-fn single_value_words(k: usize, place: usize) -> Vec<Square> {
+pub(crate) fn single_value_words(k: usize, place: usize) -> Vec<Square> {
     let single = |value| {
         let mut message = vec![0; 2 * k];
         message[place] = value;
@@ -244,17 +255,27 @@ fn message_at(k: usize, number: usize) -> Vec<u16> {
 
 /// Tries all messages (k = 1 and 2, whose radius is 2).
 pub fn decode_by_messages(k: usize, received: &Card) -> Option<Decoded> {
-    nearest(k, square(received), 0..all_words(k).len())
+    let received = square(received);
+    nearest(k, 0..all_words(k).len(), |word| within_two(received - word))
 }
 
-/// The only word within rank 2 among those of the messages with the given
-/// numbers. Columns of rank 2 have 9 combinations.
-fn nearest(k: usize, received: Square, numbers: impl Iterator<Item = usize>) -> Option<Decoded> {
+/// The rank, if it is at most 2: then the columns have at most 9 combinations.
+fn within_two(difference: Square) -> Option<u32> {
+    rank_within::<9>(difference)
+}
+
+/// The only word with a distance among those of the messages with the given
+/// numbers.
+pub(crate) fn nearest(
+    k: usize,
+    numbers: impl Iterator<Item = usize>,
+    distance: impl Fn(Square) -> Option<u32>,
+) -> Option<Decoded> {
     let words = all_words(k);
     let mut found: Option<Decoded> = None;
     for number in numbers {
         let word = words[number];
-        if let Some(distance) = rank_within::<9>(received - word) {
+        if let Some(distance) = distance(word) {
             let word = symbols(word);
             let only = found.is_none_or(|before| before.word == word);
             assert!(only, "two words within the radius");
@@ -277,7 +298,8 @@ fn decode_by_index(received: Square) -> Option<Decoded> {
         &index()[factors as usize][symbol]
     };
     let numbers = combinations_of_three().flat_map(agreeing);
-    nearest(2, received, numbers.map(|number| *number as usize))
+    let numbers = numbers.map(|number| *number as usize);
+    nearest(2, numbers, |word| within_two(received - word))
 }
 
 /// The numbers whose base-3 digits are the factors of three columns, one for
@@ -335,7 +357,7 @@ fn errors_by_residue(k: usize) -> &'static HashMap<Digits, Square> {
 
 /// Whether the highest digit that is not 0 is a 1: true of one of each
 /// symbol and its negative.
-fn is_normal(symbol: u64) -> bool {
+pub(crate) fn is_normal(symbol: u64) -> bool {
     symbol == 1 || symbol > 2 && is_normal(symbol / 3)
 }
 

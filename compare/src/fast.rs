@@ -1,9 +1,12 @@
 //! A fast implementation in plain Rust, for the comparison of speed: products
-//! by logarithms, and decoding by a search over information subspaces.
+//! by logarithms, and decoding by a search over information subspaces. With
+//! dead lines it decodes by algebra, as the proved library does (`dead`).
 
 use crate::book::LISTING_MAX;
 use crate::library::Library;
 use crate::refusal::Refusal;
+
+mod dead;
 
 /// An element packed into two bytes: bit i of the low byte for a coefficient
 /// of z^i that is 1, of the high byte for one that is 2.
@@ -448,16 +451,22 @@ fn decode(k: usize, received: Card) -> Result<Decoded, Refusal> {
     let found = search(&State::start(received), k, 0, &[], radius(k));
     let (error, distance) = found.ok_or(Refusal::Undecodable)?;
     let word = std::array::from_fn(|s| sub(received[s], error[s]));
+    let word_logs = logs_of(&word);
     Ok(Decoded {
         word,
-        message: message_of(k, &word),
+        message: message_of(k, |i| coefficient(&word_logs, i)),
         distance,
     })
 }
 
-fn message_of(k: usize, word: &Card) -> [u16; 10] {
-    let word_logs = logs_of(word);
-    let pair = |i: usize| PAIRS[place(weighted_sum(&word_logs, &DUAL_LOGS[i]))].map(u16::from);
+/// The coefficient of y^(3^i), given the logarithms of a card.
+fn coefficient(card_logs: &[u16; 6], i: usize) -> Packed {
+    weighted_sum(card_logs, &DUAL_LOGS[i])
+}
+
+/// The message of a polynomial with these coefficients.
+fn message_of(k: usize, coefficient: impl Fn(usize) -> Packed) -> [u16; 10] {
+    let pair = |i: usize| PAIRS[place(coefficient(i))].map(u16::from);
     let mut message = [0; 10];
     message[0] = pair(0)[0];
     for i in 1..k {
@@ -477,6 +486,12 @@ fn encode(k: usize, message: &[u16]) -> Card {
         logs[i] = LOGS[place(coefficient)];
     }
     logs[k] = LOGS[place(gamma_small(message[2 * k - 1]))];
+    word_of(k, &logs)
+}
+
+/// The values of a polynomial, given the logarithms of its coefficients, of
+/// which those after number k are not used.
+fn word_of(k: usize, logs: &[u16; 6]) -> Card {
     std::array::from_fn(|s| weighted_sum(&logs[..=k], &POINT_LOGS[s][..=k]))
 }
 
@@ -485,7 +500,7 @@ fn syndrome(k: usize, received: &Card, values: &mut [u16]) {
     // The list mu is z^13 to the power 3^(6-k) times the dual basis.
     let sum = |i: usize| {
         let scale = 13 * CUBINGS[(6 - k + i) % 6] % ORDER;
-        reduce_or_zero(log(weighted_sum(&received_logs, &DUAL_LOGS[i])) + scale)
+        reduce_or_zero(log(coefficient(&received_logs, i)) + scale)
     };
     let trace = |log: usize| u16::from(TRACES[log]);
     values[0] = trace(sum(0) + CUBINGS[6 - k]);
@@ -753,6 +768,26 @@ fn card_of(strike: &[u16; 3]) -> [u8; 12] {
     std::array::from_fn(|place| symbols[place / 2].to_be_bytes()[place % 2])
 }
 
+/// Tests the arguments of a decoding, and fills what it finds.
+fn fill_decoded(
+    k: u32,
+    received: &[u16],
+    word: &mut [u16],
+    message: &mut [u16],
+    distance: &mut u32,
+    decode: impl FnOnce(usize, Card) -> Result<Decoded, Refusal>,
+) -> Result<(), Refusal> {
+    let k = parameter(k)?;
+    length(received.len(), 6)?;
+    length(word.len(), 6)?;
+    length(message.len(), 2 * k)?;
+    let decoded = decode(k, card(received)?)?;
+    word.copy_from_slice(&symbols_of(&decoded.word));
+    message.copy_from_slice(&decoded.message[..2 * k]);
+    *distance = decoded.distance;
+    Ok(())
+}
+
 /// 0, or the number of the refusal.
 fn status(run: impl FnOnce() -> Result<(), Refusal>) -> u32 {
     run().err().map_or(0, Refusal::number)
@@ -804,17 +839,21 @@ impl Library for Fast {
         message: &mut [u16],
         distance: &mut u32,
     ) -> u32 {
-        status(|| {
-            let k = parameter(k)?;
-            length(received.len(), 6)?;
-            length(word.len(), 6)?;
-            length(message.len(), 2 * k)?;
-            let decoded = decode(k, card(received)?)?;
-            word.copy_from_slice(&symbols_of(&decoded.word));
-            message.copy_from_slice(&decoded.message[..2 * k]);
-            *distance = decoded.distance;
-            Ok(())
-        })
+        status(|| fill_decoded(k, received, word, message, distance, decode))
+    }
+
+    #[inline(never)]
+    fn decode_dead(
+        k: u32,
+        received: &[u16],
+        dead_rows: u32,
+        dead_columns: u32,
+        word: &mut [u16],
+        message: &mut [u16],
+        rank: &mut u32,
+    ) -> u32 {
+        let decode = |k, card| dead::decode(k, card, dead_rows, dead_columns);
+        status(|| fill_decoded(k, received, word, message, rank, decode))
     }
 
     #[inline(never)]

@@ -7,6 +7,7 @@ pub mod call;
 #[cfg(feature = "proved")]
 pub mod capi;
 pub mod code;
+pub mod dead;
 pub mod digits;
 pub mod fast;
 pub mod field;

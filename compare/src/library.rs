@@ -22,6 +22,18 @@ pub trait Library {
         distance: &mut u32,
     ) -> u32;
 
+    /// "Mend" with dead lines: bit i of a mask is line i. The rank is that of
+    /// the difference without them.
+    fn decode_dead(
+        k: u32,
+        received: &[u16],
+        dead_rows: u32,
+        dead_columns: u32,
+        word: &mut [u16],
+        message: &mut [u16],
+        rank: &mut u32,
+    ) -> u32;
+
     /// "Open".
     fn open(book: &[u8], tunes: &mut u32) -> u32;
 

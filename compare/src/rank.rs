@@ -25,15 +25,21 @@ pub fn rank(square: Square) -> u32 {
 }
 
 /// The rank, if the columns have at most `LIMIT` combinations.
+pub fn rank_within<const LIMIT: usize>(square: Square) -> Option<u32> {
+    column_rank_within::<LIMIT>((0..6).map(|place| column(square, place)))
+}
+
+/// The rank of any columns, if they have at most `LIMIT` combinations.
 ///
 /// The combinations of the columns so far are all listed. A column that is
 /// one of them adds none; any other makes them three times as many.
-pub fn rank_within<const LIMIT: usize>(square: Square) -> Option<u32> {
+pub fn column_rank_within<const LIMIT: usize>(
+    columns: impl Iterator<Item = Digits>,
+) -> Option<u32> {
     let mut combinations = [Digits::ZERO; LIMIT];
     let mut count = 1;
     let mut rank = 0;
-    for place in 0..6 {
-        let column = column(square, place);
+    for column in columns {
         if combinations[..count].contains(&column) {
             continue;
         }

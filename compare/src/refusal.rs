@@ -6,7 +6,7 @@ pub enum Refusal {
     Parameter = 1,
     /// A list has the wrong length.
     Length = 2,
-    /// A symbol or a message value is out of range.
+    /// A symbol, a message value or a mask of lines is out of range.
     Range = 3,
     /// No word of the code lies within the radius ("hopeless").
     Undecodable = 4,
@@ -22,6 +22,8 @@ pub enum Refusal {
     NoSuchCard = 9,
     /// A bell, force or delay is out of range.
     StrikeField = 10,
+    /// More lines are dead than the code can do without.
+    DeadLines = 11,
 }
 
 impl Refusal {

@@ -1,5 +1,6 @@
 //! Inputs for the tests and the programs: messages, errors of a given rank,
-//! cards with damage, books, and tunes as lists and as text.
+//! cards with damage and with dead lines, books, and tunes as lists and as
+//! text.
 
 use crate::code;
 use crate::digits::Digits;
@@ -59,6 +60,73 @@ pub fn sent(random: &mut Random, k: u32, damage: u32) -> Sent {
         message,
         word,
         received,
+    }
+}
+
+/// Masks of dead rows and of dead columns.
+pub type Masks = [u32; 2];
+
+/// How many lines are dead.
+pub fn dead_lines(dead: Masks) -> u32 {
+    dead[0].count_ones() + dead[1].count_ones()
+}
+
+/// A mask of so many lines.
+pub fn mask(random: &mut Random, lines: u32) -> u32 {
+    loop {
+        let mask = random.below(64) as u32;
+        if mask.count_ones() == lines {
+            return mask;
+        }
+    }
+}
+
+/// All masks with which cards are decoded for k.
+pub fn allowed_masks(k: u32) -> Vec<Masks> {
+    let masks = (0..64 * 64).map(|number| [number / 64, number % 64]);
+    masks.filter(|dead| dead_lines(*dead) <= 6 - k).collect()
+}
+
+/// The largest rank of damage in live lines that is always decoded, for masks
+/// that are allowed.
+pub fn live_radius(k: u32, dead: Masks) -> u32 {
+    (6 - k - dead_lines(dead)) / 2
+}
+
+/// The digits of a square in dead lines, with 0 for all others.
+pub fn dead_part(square: Square, dead: Masks) -> Square {
+    let [dead_rows, dead_columns] = dead;
+    let is_dead = |place: &u32| (dead_rows >> (place % 6) | dead_columns >> (place / 6)) & 1 == 1;
+    (0..36)
+        .filter(is_dead)
+        .map(|place| square.part(place, 1).shift_up(place))
+        .sum()
+}
+
+/// The digits of a square in live lines, with 0 for all others.
+pub fn live_part(square: Square, dead: Masks) -> Square {
+    square - dead_part(square, dead)
+}
+
+/// A random message's word with an error of the given rank in live lines, and
+/// with anything in dead ones.
+pub fn sent_dead(random: &mut Random, k: u32, dead: Masks, damage: u32) -> Sent {
+    let sent = sent(random, k, 0);
+    let error = live_error(random, dead, damage) + dead_part(square(&card(random)), dead);
+    Sent {
+        received: symbols(square(&sent.word) + error),
+        ..sent
+    }
+}
+
+/// An error of exactly this rank, with 0 in dead lines.
+fn live_error(random: &mut Random, dead: Masks, wanted: u32) -> Square {
+    loop {
+        let sum: Square = (0..wanted).map(|_| product(random)).sum();
+        let error = live_part(sum, dead);
+        if rank(error) == wanted {
+            return error;
+        }
     }
 }
 

@@ -4,7 +4,7 @@
 use crate::call::Call;
 use crate::code::Card;
 use crate::random::Random;
-use crate::samples::{self, junk};
+use crate::samples::{self, junk, Masks};
 use crate::writer::{book_size, Tunes};
 
 /// The seed of the calls that are stored with the program.
@@ -28,6 +28,9 @@ pub fn calls(seed: u64) -> Vec<Call> {
     calls.extend(place_calls(random));
     calls.extend(write_calls(random));
     calls.extend(size_calls());
+    calls.extend(dead_cases());
+    calls.extend(dead_calls(random));
+    calls.extend(dead_refusals(random));
     calls
 }
 
@@ -58,6 +61,18 @@ fn syndrome(k: u32, received: &[u16]) -> Call {
 fn decode(k: u32, received: &[u16]) -> Call {
     Call::Decode {
         k,
+        received: received.to_vec(),
+        word: vec![FILL; 6],
+        message: vec![FILL; 2 * k.min(6) as usize],
+    }
+}
+
+/// With lists to fill that are as long as they should be, if k is 1 to 5.
+fn decode_dead(k: u32, dead: Masks, received: &[u16]) -> Call {
+    Call::DecodeDead {
+        k,
+        dead_rows: dead[0],
+        dead_columns: dead[1],
         received: received.to_vec(),
         word: vec![FILL; 6],
         message: vec![FILL; 2 * k.min(6) as usize],
@@ -447,5 +462,103 @@ fn size_calls() -> Vec<Call> {
             counts: counts.to_vec(),
         });
     }
+    calls
+}
+
+/// Words of few digits, with what is wrong in dead lines or outside of them:
+/// rows and columns, those of the lowest and those of the highest bits, dead
+/// ones that meet, and all rows but one.
+fn dead_cases() -> Vec<Call> {
+    let lost = [1, 3, 9, 0, 0, 0];
+    let mut calls = vec![];
+    for dead in [
+        [0, 0],
+        [0, 56],
+        [56, 0],
+        [24, 32],
+        [32, 48],
+        [0, 32],
+        [0, 7],
+        [7, 56],
+        [31, 0],
+        [0, 62],
+    ] {
+        calls.push(decode_dead(1, dead, &lost));
+    }
+    for dead in [[0, 1], [1, 0], [0, 32], [32, 0]] {
+        calls.push(decode_dead(5, dead, &[1, 0, 0, 0, 0, 0]));
+        calls.push(decode_dead(5, dead, &[0, 0, 0, 0, 0, 728]));
+    }
+    for dead in [[1, 4], [4, 1], [1, 1]] {
+        calls.push(decode_dead(4, dead, &[2, 2, 7, 2, 0, 1]));
+    }
+    calls.push(decode_dead(3, [21, 0], &[0; 6]));
+    calls.push(decode_dead(2, [21, 8], &[728; 6]));
+    calls
+}
+
+/// For each k and each number of dead rows and of dead columns, damage in live
+/// lines of every rank within the bound; for each k and each number of dead
+/// lines the rank beyond it, and any card.
+fn dead_calls(random: &mut Random) -> Vec<Call> {
+    let mut calls = vec![];
+    for k in 1..=5 {
+        for lines in 0..=6 - k {
+            for rows in 0..=lines {
+                let dead = [rows, lines - rows].map(|lines| samples::mask(random, lines));
+                for damage in 0..=samples::live_radius(k, dead) {
+                    let sent = samples::sent_dead(random, k, dead, damage);
+                    calls.push(decode_dead(k, dead, &sent.received));
+                }
+            }
+        }
+        for lines in 1..=6 - k {
+            let dead = [lines / 2, lines - lines / 2].map(|lines| samples::mask(random, lines));
+            let beyond = samples::live_radius(k, dead) + 1;
+            let sent = samples::sent_dead(random, k, dead, beyond);
+            calls.push(decode_dead(k, dead, &sent.received));
+            if lines > 1 {
+                calls.push(decode_dead(k, dead, &samples::card(random)));
+            }
+        }
+    }
+    calls
+}
+
+/// Masks over 63, too many lines, and each refusal before those that come
+/// after it.
+fn dead_refusals(random: &mut Random) -> Vec<Call> {
+    let mut calls = vec![];
+    for mask in [64, 256, u32::MAX] {
+        calls.push(decode_dead(2, [mask, 0], &[0; 6]));
+    }
+    for mask in [64, 65, 1 << 31] {
+        calls.push(decode_dead(2, [0, mask], &[0; 6]));
+    }
+    for k in 1..=5 {
+        let most = (1 << (6 - k)) - 1;
+        let word = samples::sent(random, k, 0).word;
+        for dead in [[most, 32], [32, most]] {
+            calls.push(decode_dead(k, dead, &word));
+        }
+    }
+    for k in [0, 6, u32::MAX] {
+        calls.push(decode_dead(k, [64, 63], &[729; 5]));
+    }
+    for [card, word, other] in [[5, 6, 0], [7, 6, 0], [6, 5, 0], [6, 7, 0], [6, 6, 1]] {
+        calls.push(Call::DecodeDead {
+            k: 2,
+            dead_rows: 64,
+            dead_columns: 63,
+            received: vec![729; card],
+            word: junk(random, word),
+            message: junk(random, 4 + other),
+        });
+    }
+    calls.push(decode_dead(2, [63, 63], &[0, 0, 0, 0, 0, 729]));
+    calls.push(decode_dead(2, [64, 63], &[728; 6]));
+    calls.push(decode_dead(2, [63, 64], &[728; 6]));
+    calls.push(decode_dead(2, [63, 0], &[728; 6]));
+    calls.push(decode_dead(2, [1, 2], &[65_535, 0, 0, 0, 0, 0]));
     calls
 }

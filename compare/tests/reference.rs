@@ -3,12 +3,13 @@
 
 use compare::book;
 use compare::code::{decode, decode_by_messages, encode, radius, syndrome, weight, Card, Decoded};
+use compare::dead::{self, decode_dead, Lines};
 use compare::digits::Digits;
 use compare::field::{of_small, small_number, Element};
 use compare::random::Random;
-use compare::rank::{rank, square, symbols};
+use compare::rank::{rank, square, symbols, Square};
 use compare::refusal::Refusal;
-use compare::samples;
+use compare::samples::{self, Masks};
 use compare::text::{self, press, LONGEST_TEXT};
 use compare::writer::{book_size, write_book, Tunes};
 use std::collections::HashSet;
@@ -442,21 +443,22 @@ fn texts_of_tunes() {
     }
 }
 
+/// The words of all messages but that of zeros.
+fn words(k: u32) -> impl Iterator<Item = Square> {
+    (1..27u32.pow(2 * k)).map(move |number| {
+        let digits = (0..2 * k).map(|place| (number / 27u32.pow(place) % 27) as u16);
+        let message: Vec<u16> = digits.collect();
+        square(&encode(k, &message, 6).unwrap())
+    })
+}
+
 /// Words of k = 1 and 2 have at least the rank 7 - k, and some have it. For
 /// k = 3 and 4 decoding asserts it of what it needs: errors of rank 1 have
 /// different residues.
 #[test]
 fn least_distance() {
     for k in 1..=2u32 {
-        let count = 27u32.pow(2 * k);
-        let least = (1..count)
-            .map(|number| {
-                let digits = (0..2 * k).map(|place| (number / 27u32.pow(place) % 27) as u16);
-                let message: Vec<u16> = digits.collect();
-                weight(&encode(k, &message, 6).unwrap()).unwrap()
-            })
-            .min();
-        assert_eq!(least, Some(7 - k));
+        assert_eq!(words(k).map(rank).min(), Some(7 - k));
     }
 }
 
@@ -548,6 +550,209 @@ fn damage_beyond_the_radius_is_never_taken_for_the_word() {
             let difference = square(&sent.received) - square(&decoded.word);
             assert_eq!(rank(difference), decoded.distance);
             assert!(decoded.distance <= radius(k));
+        }
+    }
+}
+
+fn mend_dead(k: u32, received: Card, dead: Masks) -> Result<Decoded, Refusal> {
+    decode_dead(k, &received, dead[0], dead[1], 6, 2 * k as usize)
+}
+
+/// Cases that can be seen: words of few digits, with what is wrong in dead
+/// lines or outside of them.
+#[test]
+fn dead_cases() {
+    let one = |rank| {
+        Ok(Decoded {
+            word: [1, 3, 9, 27, 81, 243],
+            message: vec![1, 0],
+            distance: rank,
+        })
+    };
+    // Three symbols are lost: too many, unless they are known.
+    let lost = [1, 3, 9, 0, 0, 0];
+    assert_eq!(mend(1, lost), Err(Refusal::Undecodable));
+    assert_eq!(mend_dead(1, lost, [0, 0b11_1000]), one(0));
+    assert_eq!(mend_dead(1, lost, [0b11_1000, 0]), one(0));
+    assert_eq!(mend_dead(1, lost, [0b01_1000, 0b10_0000]), one(0));
+    assert_eq!(mend_dead(1, lost, [0, 0b11_0000]), one(1));
+    assert_eq!(mend_dead(1, lost, [0b10_0000, 0b01_0000]), one(1));
+    assert_eq!(mend_dead(1, lost, [0, 0b10_0000]), one(2));
+    assert_eq!(mend_dead(1, lost, [0b10_0000, 0]), one(2));
+    assert_eq!(mend_dead(1, lost, [0, 0b11_1111]), Err(Refusal::DeadLines));
+    // Line 0 is bit 0, a column is a symbol, and a row is a digit.
+    let zero = zero_word(5, 0);
+    assert_eq!(mend_dead(5, [1, 0, 0, 0, 0, 0], [0, 1]), zero);
+    assert_eq!(mend_dead(5, [0, 0, 0, 0, 0, 728], [0, 32]), zero);
+    assert_eq!(mend_dead(5, [1, 2, 0, 0, 1, 2], [1, 0]), zero);
+    assert_eq!(mend_dead(5, [243, 0, 486, 0, 0, 243], [32, 0]), zero);
+    assert_eq!(mend_dead(4, [2, 2, 7, 2, 0, 1], [1, 4]), zero_word(4, 0));
+    for dead in [[0, 32], [32, 0], [2, 0], [0, 2]] {
+        assert_ne!(mend_dead(5, [1, 0, 0, 0, 0, 0], dead), zero);
+    }
+    assert_ne!(mend_dead(5, [1, 2, 0, 0, 1, 2], [0, 1]), zero);
+    assert_ne!(mend_dead(5, [0, 0, 0, 0, 0, 728], [32, 0]), zero);
+}
+
+#[test]
+fn order_of_refusals_with_dead_lines() {
+    let refused = |k, card: &[u16], dead: Masks, word_len, message_len| {
+        decode_dead(k, card, dead[0], dead[1], word_len, message_len)
+            .err()
+            .map_or(0, Refusal::number)
+    };
+    for k in 1..=5 {
+        let values = 2 * k as usize;
+        for dead in [[64, 63], [63, 64], [0, u32::MAX], [1 << 31, 0]] {
+            assert_eq!(refused(0, &[729; 5], dead, 5, 11), 1);
+            assert_eq!(refused(6, &[729; 6], dead, 6, 12), 1);
+            assert_eq!(refused(k, &[729; 5], dead, 6, values), 2);
+            assert_eq!(refused(k, &[729; 6], dead, 7, values), 2);
+            assert_eq!(refused(k, &[729; 6], dead, 6, values + 1), 2);
+            assert_eq!(refused(k, &[0; 6], dead, 6, values), 3);
+        }
+        assert_eq!(refused(k, &[729; 6], [63, 63], 6, values), 3);
+        assert_eq!(refused(k, &[728; 6], [63, 63], 6, values), 11);
+        // As many lines as there may be, and one more.
+        let most = (1 << (6 - k)) - 1;
+        assert_eq!(refused(k, &[0; 6], [most, 0], 6, values), 0);
+        assert_eq!(refused(k, &[0; 6], [0, most], 6, values), 0);
+        assert_eq!(refused(k, &[0; 6], [most, 32], 6, values), 11);
+        assert_eq!(refused(k, &[0; 6], [32, most], 6, values), 11);
+    }
+    assert_eq!(refused(4, &[1, 3, 9, 27, 81, 0], [1, 2], 6, 8), 4);
+}
+
+/// Cards for k with dead lines: errors in live lines of every rank up to one
+/// too many, and any card.
+fn cards_with_dead_lines(random: &mut Random, k: u32, dead: Masks) -> Vec<Card> {
+    let damages = 0..=samples::live_radius(k, dead) + 1;
+    let mut cards: Vec<Card> = damages
+        .map(|damage| samples::sent_dead(random, k, dead, damage).received)
+        .collect();
+    cards.push(samples::card(random));
+    cards
+}
+
+/// What is found has the rank that is said, if dead lines are made 0 too, and
+/// is within the bound.
+fn check_dead(k: u32, card: Card, dead: Masks, found: &Decoded) {
+    let difference = square(&card) - square(&found.word);
+    assert_eq!(rank(samples::live_part(difference, dead)), found.distance);
+    assert!(2 * found.distance + samples::dead_lines(dead) <= 6 - k);
+    assert_eq!(encode(k, &found.message, 6), Ok(found.word));
+}
+
+/// Both ways to decode give the same for k = 1, for all masks.
+#[test]
+fn two_ways_to_decode_with_dead_lines_agree() {
+    let mut random = Random::new(9);
+    for dead in samples::allowed_masks(1) {
+        let lines = Lines::without(dead[0], dead[1]);
+        for card in cards_with_dead_lines(&mut random, 1, dead) {
+            let decoded = dead::decode_by_messages(1, &card, &lines);
+            assert_eq!(dead::decode_by_spaces(1, &card, &lines), decoded);
+            if let Some(decoded) = decoded {
+                check_dead(1, card, dead, &decoded);
+            }
+        }
+    }
+}
+
+/// The same for k = 2 and some masks, with as many rows and columns as there
+/// may be.
+#[test]
+fn all_messages_give_the_same_with_dead_lines() {
+    let mut random = Random::new(10);
+    for dead in [
+        [0, 0],
+        [1, 0],
+        [0, 16],
+        [8, 8],
+        [3, 0],
+        [0, 40],
+        [4, 48],
+        [25, 0],
+        [9, 33],
+        [30, 0],
+        [0, 51],
+    ] {
+        let lines = Lines::without(dead[0], dead[1]);
+        for card in cards_with_dead_lines(&mut random, 2, dead) {
+            let decoded = mend_dead(2, card, dead).ok();
+            assert_eq!(decoded, dead::decode_by_messages(2, &card, &lines));
+        }
+    }
+}
+
+/// With no dead line it is the same as `decode`.
+#[test]
+fn no_dead_line() {
+    let mut random = Random::new(11);
+    for k in 1..=5 {
+        for turn in 0..60 {
+            let card = match turn % 6 {
+                5 => samples::card(&mut random),
+                damage => samples::sent(&mut random, k, damage).received,
+            };
+            assert_eq!(mend_dead(k, card, [0, 0]), mend(k, card));
+        }
+    }
+}
+
+/// What is left of a word other than 0 has at least the rank 7 - k, less the
+/// number of dead lines. So no two words are near a card.
+#[test]
+fn least_distance_with_dead_lines() {
+    let check = |k: u32, dead: Masks, words: &[Square]| {
+        let least = words
+            .iter()
+            .map(|word| rank(samples::live_part(*word, dead)))
+            .min();
+        assert!(least >= Some(7 - k - samples::dead_lines(dead)));
+    };
+    let one: Vec<Square> = words(1).collect();
+    for dead in samples::allowed_masks(1) {
+        check(1, dead, &one);
+    }
+    let two: Vec<Square> = words(2).collect();
+    for dead in [[1, 0], [0, 32], [2, 2], [48, 3]] {
+        check(2, dead, &two);
+    }
+}
+
+/// With one dead line every card is decoded for k = 5: there are as many words
+/// as live digits can be read.
+#[test]
+fn one_dead_line_for_the_largest_code() {
+    let mut random = Random::new(12);
+    for dead in samples::allowed_masks(5) {
+        for _ in 0..50 {
+            let card = samples::card(&mut random);
+            match mend_dead(5, card, dead) {
+                Ok(decoded) => check_dead(5, card, dead, &decoded),
+                refused => {
+                    assert_eq!(refused, Err(Refusal::Undecodable));
+                    assert_eq!(dead, [0, 0]);
+                }
+            }
+        }
+    }
+}
+
+#[test]
+fn damage_in_live_lines_within_the_bound_is_decoded() {
+    let mut random = Random::new(13);
+    for k in 1..=5 {
+        for dead in samples::allowed_masks(k) {
+            let damage = random.below(u64::from(samples::live_radius(k, dead)) + 1) as u32;
+            let sent = samples::sent_dead(&mut random, k, dead, damage);
+            let decoded = Decoded {
+                word: sent.word,
+                message: sent.message,
+                distance: damage,
+            };
+            assert_eq!(mend_dead(k, sent.received, dead), Ok(decoded));
         }
     }
 }

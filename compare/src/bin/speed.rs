@@ -11,6 +11,12 @@
 //! one tune of 5,460 cards, or where the damage is `0 tunes`, 3,276 tunes of
 //! one card. `book size` asks for the size of a book of 3,276 tunes.
 //!
+//! The damage of `decode_dead` is the number of dead rows, that of dead
+//! columns, and the rank of the damage in live lines. The dead lines of each
+//! card are others, and filled at random. For each k and each number of dead
+//! lines only that row is printed which takes the proved library longest;
+//! the others can be named. With no dead line it is `decode`.
+//!
 //! With the name of an operation as arguments it prints only the rows of that.
 //! With the words of a row before its times it makes only that row's calls,
 //! once each: for a tool that counts instructions.
@@ -21,7 +27,7 @@ use compare::code::{radius, Card};
 use compare::fast::Fast;
 use compare::library::Library;
 use compare::random::Random;
-use compare::samples;
+use compare::samples::{self, Masks};
 use compare::writer::{book_size, Tunes};
 use std::fs::{self, File};
 use std::hint::black_box;
@@ -68,6 +74,7 @@ fn main() {
     syndrome_rows();
     rank_rows();
     decode_rows();
+    decode_dead_rows();
     read_book_rows();
     listing_rows();
     process_rows();
@@ -141,6 +148,24 @@ fn decode_rows() {
                 || decode_all::<Proved>(k, &cards),
                 || decode_all::<Fast>(k, &cards),
             );
+        }
+    }
+}
+
+fn decode_dead_rows() {
+    for k in 1..=5 {
+        for lines in 1..=6 - k {
+            let cases = DeadCase::all(k, lines);
+            if let Some(case) = cases.iter().find(|case| case.names().join(" ") == wanted()) {
+                case.row();
+            }
+            if is_wanted(["decode_dead", "", ""]) {
+                let times = cases.into_iter().map(|case| (case.proved_time(), case));
+                let (_, slowest) = times
+                    .max_by(|(one, _), (other, _)| one.total_cmp(other))
+                    .expect("a case");
+                slowest.row();
+            }
         }
     }
 }
@@ -287,6 +312,76 @@ impl Book {
     }
 }
 
+/// What a row of `decode_dead` is measured on.
+struct DeadCase {
+    k: u32,
+    rows: u32,
+    columns: u32,
+    damage: Damage,
+}
+
+impl DeadCase {
+    /// All cases with so many dead lines.
+    fn all(k: u32, lines: u32) -> Vec<DeadCase> {
+        let mut cases = vec![];
+        for rows in 0..=lines {
+            let columns = lines - rows;
+            let ranks = 0..=(6 - k - lines) / 2;
+            let mut damages: Vec<Damage> = ranks.map(Damage::Rank).collect();
+            // Else every card is near a word.
+            if lines < 6 - k || rows * columns > 0 {
+                damages.push(Damage::Hopeless);
+            }
+            cases.extend(damages.into_iter().map(|damage| DeadCase {
+                k,
+                rows,
+                columns,
+                damage,
+            }));
+        }
+        cases
+    }
+
+    fn names(&self) -> [String; 3] {
+        let damage = format!("{} {} {}", self.rows, self.columns, self.damage.name());
+        ["decode_dead".to_string(), self.k.to_string(), damage]
+    }
+
+    fn cards(&self) -> Vec<(Card, Masks)> {
+        let k = self.k;
+        let random = &mut Random::new(k.into());
+        let card = |_| {
+            let dead = [self.rows, self.columns].map(|lines| samples::mask(random, lines));
+            let card = match self.damage {
+                Damage::Rank(rank) => samples::sent_dead(random, k, dead, rank).received,
+                Damage::Hopeless => hopeless_card(random, |card| decode_dead(k, card, dead)),
+            };
+            (card, dead)
+        };
+        (0..INPUTS).map(card).collect()
+    }
+
+    /// About how long the proved library takes.
+    fn proved_time(&self) -> f64 {
+        let cards = self.cards();
+        let mut proved = || decode_dead_all::<Proved>(self.k, &cards);
+        let repeats = repeats(&mut proved);
+        let times = (0..ROUNDS).map(|_| time(&mut proved, repeats));
+        times.fold(f64::INFINITY, f64::min)
+    }
+
+    fn row(&self) {
+        let [operation, k, damage] = &self.names();
+        let cards = self.cards();
+        row(
+            [operation, k, damage],
+            INPUTS,
+            || decode_dead_all::<Proved>(self.k, &cards),
+            || decode_dead_all::<Fast>(self.k, &cards),
+        );
+    }
+}
+
 impl Damage {
     fn name(self) -> String {
         match self {
@@ -305,19 +400,29 @@ fn cards(k: u32, damage: Damage, count: usize) -> Vec<Card> {
     let random = &mut Random::new(k.into());
     let card = |_| match damage {
         Damage::Rank(rank) => samples::sent(random, k, rank).received,
-        Damage::Hopeless => hopeless_card(random, k),
+        Damage::Hopeless => hopeless_card(random, |card| decode(k, card)),
     };
     (0..count).map(card).collect()
 }
 
-fn hopeless_card(random: &mut Random, k: u32) -> Card {
+/// A card that is refused.
+fn hopeless_card(random: &mut Random, decode: impl Fn(&Card) -> u32) -> Card {
     loop {
         let card = samples::card(random);
-        let mut message = vec![0; 2 * k as usize];
-        if Fast::decode(k, &card, &mut [0; 6], &mut message, &mut 0) != 0 {
+        if decode(&card) != 0 {
             return card;
         }
     }
+}
+
+fn decode(k: u32, card: &Card) -> u32 {
+    let mut message = vec![0; 2 * k as usize];
+    Fast::decode(k, card, &mut [0; 6], &mut message, &mut 0)
+}
+
+fn decode_dead(k: u32, card: &Card, [rows, columns]: Masks) -> u32 {
+    let mut message = vec![0; 2 * k as usize];
+    Fast::decode_dead(k, card, rows, columns, &mut [0; 6], &mut message, &mut 0)
 }
 
 // Each of these gives back a sum of what the calls gave, which must be the
@@ -361,6 +466,18 @@ fn decode_all<L: Library>(k: u32, cards: &[Card]) -> u64 {
     for card in cards {
         sum += u64::from(L::decode(k, card, &mut word, &mut message, &mut distance));
         sum += u64::from(distance) + u64::from(message[0]);
+    }
+    sum
+}
+
+fn decode_dead_all<L: Library>(k: u32, cards: &[(Card, Masks)]) -> u64 {
+    let mut word = [0; 6];
+    let mut message = vec![0; 2 * k as usize];
+    let mut rank = 0;
+    let mut sum = 0;
+    for (card, [rows, columns]) in cards {
+        let status = L::decode_dead(k, card, *rows, *columns, &mut word, &mut message, &mut rank);
+        sum += u64::from(status) + u64::from(rank) + u64::from(message[0]);
     }
     sum
 }
@@ -462,7 +579,7 @@ fn row(
 
 fn print_row(cells: [&str; 6]) {
     let [operation, k, damage, proved, rust, ratio] = cells;
-    println!("{operation:<17} {k:<2} {damage:<9} {proved:>12} {rust:>12} {ratio:>7}");
+    println!("{operation:<17} {k:<2} {damage:<12} {proved:>9} {rust:>12} {ratio:>7}");
 }
 
 /// How often to run something for a measurement, found while warming up.

@@ -9,6 +9,7 @@ use compare::library::Library;
 use compare::random::Random;
 use compare::samples::{self, junk};
 
+pub mod dead;
 pub mod writing;
 
 /// Values of k that are refused. Some are right in their low 8 or 16 bits.
@@ -707,6 +708,71 @@ macro_rules! suite {
         #[test]
         fn decode_lengths() {
             suite::decode_lengths::<$library>();
+        }
+
+        #[test]
+        fn dead_all_masks_k1() {
+            suite::dead::all_masks::<$library>(1);
+        }
+
+        #[test]
+        fn dead_all_masks_k2() {
+            suite::dead::all_masks::<$library>(2);
+        }
+
+        #[test]
+        fn dead_all_masks_k3() {
+            suite::dead::all_masks::<$library>(3);
+        }
+
+        #[test]
+        fn dead_all_masks_k4() {
+            suite::dead::all_masks::<$library>(4);
+        }
+
+        #[test]
+        fn dead_all_masks_k5() {
+            suite::dead::all_masks::<$library>(5);
+        }
+
+        #[test]
+        fn dead_known() {
+            suite::dead::known::<$library>();
+        }
+
+        #[test]
+        fn dead_digits() {
+            suite::dead::dead_digits::<$library>();
+        }
+
+        #[test]
+        fn dead_no_line() {
+            suite::dead::no_line::<$library>();
+        }
+
+        #[test]
+        fn dead_too_many_lines() {
+            suite::dead::too_many_lines::<$library>();
+        }
+
+        #[test]
+        fn dead_wrong_masks() {
+            suite::dead::wrong_masks::<$library>();
+        }
+
+        #[test]
+        fn dead_edge_symbols() {
+            suite::dead::edge_symbols::<$library>();
+        }
+
+        #[test]
+        fn dead_faults() {
+            suite::dead::faults::<$library>();
+        }
+
+        #[test]
+        fn dead_wrong_lengths() {
+            suite::dead::wrong_lengths::<$library>();
         }
 
         #[test]

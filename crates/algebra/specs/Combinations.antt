@@ -56,7 +56,7 @@ combine-skip d x a xs h =
     ap (λ (y : ℕ). add y (combine a xs)) (scale-same d 0 x h ∙ scale-zero x) ∙ zero-plus _ ∙ mod-eq-of-lt (combine-below a xs)
 
 -- a digit that all symbols lack, a combination lacks
-combine-digit : (i : ℕ) (a : ℕ → ℕ) (xs : List ℕ) → All (λ x. digit x i ≡ 0) xs → digit (combine a xs) i ≡ 0
+pub combine-digit : (i : ℕ) (a : ℕ → ℕ) (xs : List ℕ) → All (λ x. digit x i ≡ 0) xs → digit (combine a xs) i ≡ 0
 unfolding combine
 combine-digit i a [] h = digit-zero i
 combine-digit i a (x ∷ xs) h =

@@ -2,8 +2,9 @@
 -- Main: right, left, times-comm, times-assoc, cube-linear, risen-linear, risen-times, the rulesets products and ring.
 use mathlib.Core.Path.{_≡_, refl, sym, ap, ap₂, _∙_}
 use mathlib.Core.List.{List, [], _∷_}
-use Prim.Native.Nat.{ℕ, zero, suc, _%_}
+use Prim.Native.Nat.{ℕ, zero, suc, _+_, _%_}
 use native.Mathlib.Nat.{mod-eq-of-lt}
+use native.Mathlib.Omega.{arith}
 use lib.ListN.{length, take, getD}
 use Rattle.algebra.specs.Field.{digits-of, digits, added, number-of, add, scale, reduced, shifted, times-from, times, cube, risen}
 use Rattle.algebra.specs.Lists.{cons}
@@ -132,6 +133,16 @@ pub risen-times : (i a b : ℕ) → risen i (times a b) ≡ times (risen i a) (r
 unfolding risen
 risen-times zero a b = refl
 risen-times (suc i) a b = ap cube (risen-times i a b) ∙ cube-times (risen i a) (risen i b)
+
+pub risen-plus : (i j a : ℕ) → risen (i + j) a ≡ risen i (risen j a)
+unfolding risen
+risen-plus zero j a = let e : 0 + j ≡ j = omega arith in rw e
+risen-plus (suc i) j a = let e : suc i + j ≡ suc (i + j) = omega arith in rw e (ap cube (risen-plus i j a))
+
+pub risen-cube : (i a : ℕ) → risen i (cube a) ≡ cube (risen i a)
+unfolding risen
+risen-cube zero a = refl
+risen-cube (suc i) a = ap cube (risen-cube i a)
 
 pub risen-six : (v : ℕ) → risen 6 v ≡ v % 729
 unfolding computing

@@ -14,7 +14,8 @@ use Rattle.rank.specs.Definitions.{at, difference}
 use Rattle.rank.specs.Echelon.{rank-at-most}
 use Rattle.rank.specs.Weight.{weight-of}
 use Rattle.coding.specs.Decode.{decode}
-use Rattle.decoder.specs.Decoding.{undecodable, or-empty, decoded-word, damage}
+use Rattle.decoder.specs.Filling.{undecodable, or-empty}
+use Rattle.decoder.specs.Decoding.{decoded-word, damage}
 use Rattle.strike.specs.Strikes.{in-range, strike-of, strike-good, range-parts}
 use Rattle.book.specs.Layout.{body-good, card}
 use Rattle.book.specs.Open.{size-bad, numbers-bad, bodies-bad, open-refusal}

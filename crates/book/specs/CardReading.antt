@@ -18,8 +18,10 @@ use Rattle.rank.specs.declared.Weight.{Weight}
 use Rattle.rank.specs.Definitions.{is-card, difference}
 use Rattle.rank.specs.Weight.{weight-of}
 use Rattle.coding.specs.Code.{word, is-message}
-use Rattle.coding.specs.Decode.{decode, decode-answers, answer-near}
-use Rattle.decoder.specs.Decoding.{undecodable, or-empty, decoded-word, damage}
+use Rattle.coding.specs.Answers.{answer-holds}
+use Rattle.coding.specs.Decode.{decode, decode-answers}
+use Rattle.decoder.specs.Filling.{undecodable, or-empty}
+use Rattle.decoder.specs.Decoding.{decoded-word, damage}
 use Rattle.strike.specs.Strikes.{strike-of}
 use Rattle.candidate.specs.declared.found.Found.{Found}
 use Rattle.candidate.specs.Finding.{found-message, Consistent, message-some, message-none}
@@ -106,4 +108,4 @@ there-card bs n a b = rw (ne-eqb n 0 (λ e. omega arith), le-ltb (cards-in bs) n
 
 -- a message that was found
 pub decoded-message : (c m : List ℕ) → decode 2 c ≡ some m → is-message 2 m ≡ true
-decoded-message c m e = answer-near (decode-answers 2 c) e .message
+decoded-message c m e = answer-holds (decode-answers 2 c) e .message

@@ -11,7 +11,8 @@ use Rattle.refusal.specs.declared.Refusal.the-variants.{Length, Range, NoSuchCa
 use Rattle.rank.specs.declared.Weight.{Weight}
 use Rattle.rank.specs.Weight.{no-weight}
 use Rattle.coding.specs.Decode.{decode}
-use Rattle.decoder.specs.Decoding.{undecodable, or-empty, damage}
+use Rattle.decoder.specs.Filling.{undecodable, or-empty}
+use Rattle.decoder.specs.Decoding.{damage}
 use Rattle.strike.specs.declared.Strike.{Strike}
 use Rattle.strike.specs.Strikes.{no-strike, strike-of}
 use Rattle.book.specs.declared.reading.Reading.{Reading}

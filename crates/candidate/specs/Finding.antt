@@ -1,5 +1,5 @@
 -- What decoding finds, as the code has it, and proposals checked against the card one after the other.
--- Main: found-message, Consistent, found-long, first-at, first-next, near-some, near-none, six-difference.
+-- Main: found-message, Matches, Consistent, found-long, first-at, first-next, near-some, near-none, six-difference.
 use mathlib.Core.Path.{_≡_, refl, sym, ap, ap₂, _∙_}
 use mathlib.Core.Bool.{true, false, true≢false, cond}
 use mathlib.Core.List.{List}
@@ -11,24 +11,27 @@ use native.Mathlib.Omega.{arith}
 use lib.ListN.{length, take, length-take}
 use borrow.Author.Tests.{le-leb, lt-leb}
 use Rattle.algebra.specs.Tests.{passed}
-use Rattle.rank.specs.Definitions.{difference, apart, is-card}
+use Rattle.rank.specs.Definitions.{difference, apart}
 use Rattle.rank.specs.Arrays.{entries, six}
 use Rattle.rank.specs.Weight.{weight-of}
 use Rattle.coding.specs.Code.{word, radius, is-message}
 use Rattle.coding.specs.Coefficients.{word-long}
 use Rattle.coding.specs.Options.{or-else, first-of}
-use Rattle.coding.specs.Decode.{is-near, if-near, decode}
-use Rattle.coding.specs.Proved.{decoded}
+use Rattle.coding.specs.Decode.{is-near, if-near}
 use Rattle.candidate.specs.declared.found.Found.{Found}
 
 -- WHAT WAS FOUND
 unfoldable pub found-message : (k : ℕ) → Found → Option (List ℕ)
 found-message k r = cond (r .found) (some (take (2 * k) (r .message))) none
 
--- with the message goes its word, and the weight of the difference to the card
-pub record Consistent (k : ℕ) (c : List ℕ) (r : Found) : Type 0 where
+-- with the message goes its word, and the weight of what that leaves
+pub record Matches (k : ℕ) (left : List ℕ → List ℕ) (r : Found) : Type 0 where
   pub word-is : r .found ≡ true → r .word ≡ word k (take (2 * k) (r .message))
-  pub weight-is : r .found ≡ true → r .weight ≡ weight-of (difference (r .word) c)
+  pub weight-is : r .found ≡ true → r .weight ≡ weight-of (left (r .word))
+
+-- which is the difference to a card
+abbrev pub Consistent : (k : ℕ) → (card : List ℕ) → Found → Type 0
+Consistent k c r = Matches k (λ w. difference w c) r
 
 pub message-some : (k : ℕ) (r : Found) → r .found ≡ true → found-message k r ≡ some (take (2 * k) (r .message))
 unfolding found-message
@@ -38,16 +41,15 @@ pub message-none : (k : ℕ) (r : Found) → r .found ≡ false → found-messag
 unfolding found-message
 message-none k r e = rw e
 
-pub consistent-none : (k : ℕ) (c : List ℕ) (r : Found) → r .found ≡ false → Consistent k c r
-consistent-none k c r e = record { word-is = λ t. absurd (true≢false (sym t ∙ e)); weight-is = λ t. absurd (true≢false (sym t ∙ e)) }
+pub matches-none : (k : ℕ) (left : List ℕ → List ℕ) (r : Found) → r .found ≡ false → Matches k left r
+matches-none k left r e = record { word-is = λ t. absurd (true≢false (sym t ∙ e)); weight-is = λ t. absurd (true≢false (sym t ∙ e)) }
 
--- a message that decode finds fills its place in the array, and so does its word
-pub found-long : (k : ℕ) → 1 ≤ k → k ≤ 5 → (c : List ℕ) → is-card c ≡ true → (r : Found) → found-message k r ≡ decode k c → Consistent k c r → r .found ≡ true
+-- a message that is found fills its place in the array, and so does its word
+pub found-long : (k : ℕ) (left : List ℕ → List ℕ) (r : Found) → Matches k left r → is-message k (take (2 * k) (r .message)) ≡ true → r .found ≡ true
     → (length (r .word) ≡ 6) × (2 * k ≤ length (r .message))
 unfolding is-message
-found-long k p q c card r e w f =
-    let near = decoded k p q c card (take (2 * k) (r .message)) .0 (sym e ∙ message-some k r f) in
-    let l = passed (2 * k) 26 (take (2 * k) (r .message)) (near .message) .0 in
+found-long k left r w e f =
+    let l = passed (2 * k) 26 (take (2 * k) (r .message)) e .0 in
     (ap length (w .word-is f) ∙ word-long k _, omega (arith, l, length-take (2 * k) (r .message)))
 
 -- A LOOP over proposals: none of the first i gave an answer

@@ -1,5 +1,5 @@
 -- What the functions of the C interface promise: the refusal's number, and what is in each list and number lent afterwards.
--- Main: Gives, Encodes, Tests, Decodes, Pulls, Lists, Reads, card-number, Writes, Fills.
+-- Main: Gives, Encodes, Tests, Decodes, DecodesDead, Pulls, Lists, Reads, card-number, Writes, Fills.
 use mathlib.Core.Path.{_≡_}
 use mathlib.Core.List.{List}
 use mathlib.Core.Option.{Option, none, some}
@@ -10,7 +10,11 @@ use Rattle.coding.specs.Code.{word, test-values}
 use Rattle.coding.specs.Decode.{decode}
 use Rattle.coding.specs.Mu.{mu}
 use Rattle.codec.specs.Operations.{encode-refusal, syndrome-refusal}
-use Rattle.decoder.specs.Decoding.{decode-refusal, decoded-word, or-empty, damage}
+use Rattle.decoder.specs.Filling.{or-empty}
+use Rattle.decoder.specs.Decoding.{decode-refusal, decoded-word, damage}
+use Rattle.dead_lines.specs.Struck.{live-rank}
+use Rattle.dead_lines.specs.DecodeDead.{decode-dead}
+use Rattle.dead_decoder.specs.Operation.{dead-refusal, dead-word}
 use Rattle.book.specs.Pull.{pull-refusal, pulled, pulled-from}
 use Rattle.book.specs.Entries.{tune-at}
 use Rattle.book.specs.Reading.{reading}
@@ -37,6 +41,12 @@ pub record Decodes (k : ℕ) (c w m : List ℕ) (d r : ℕ) (w-now m-now : List 
   pub word-is : w-now ≡ unless (decode-refusal k c (length w) (length m)) (decoded-word k c) w
   pub message-is : m-now ≡ unless (decode-refusal k c (length w) (length m)) (or-empty (decode k c)) m
   pub distance-is : d-now ≡ unless (decode-refusal k c (length w) (length m)) (damage k c .rank) d
+
+pub record DecodesDead (k : ℕ) (c : List ℕ) (ρ σ : ℕ) (w m : List ℕ) (p r : ℕ) (w-now m-now : List ℕ) (p-now : ℕ) : Type 0 where
+  pub answers : r ≡ dead-refusal k c ρ σ (length w) (length m)
+  pub word-is : w-now ≡ unless (dead-refusal k c ρ σ (length w) (length m)) (dead-word k ρ σ c) w
+  pub message-is : m-now ≡ unless (dead-refusal k c ρ σ (length w) (length m)) (or-empty (decode-dead k ρ σ c)) m
+  pub rank-is : p-now ≡ unless (dead-refusal k c ρ σ (length w) (length m)) (live-rank ρ σ (dead-word k ρ σ c) c) p
 
 -- pulling gives the part as its offset and its length
 pub record Pulls (bs : List ℕ) (t o l r o-now l-now : ℕ) : Type 0 where

@@ -7,7 +7,7 @@ ghost use Rattle.book.specs.Layout.{tunes};
 ghost use Rattle.book.specs.Open.{open-refusal};
 ghost use Rattle.book.specs.Bodies.{body-refusal, total-delay, first-damaged, worn-reply};
 ghost use Rattle.writer.specs.Writing.{book-length, size-refusal};
-ghost use Rattle.capi.specs.Calls.{Gives, Encodes, Tests, Decodes, Pulls, Lists, Reads, card-number, Writes, Fills};
+ghost use Rattle.capi.specs.Calls.{Gives, Encodes, Tests, Decodes, DecodesDead, Pulls, Lists, Reads, card-number, Writes, Fills};
 use book::Entry;
 use book::Reading;
 use book::Worn;
@@ -110,6 +110,25 @@ pub extern "C" fn lucetcoral_decode(
     ensures { λ r. ⌜ Decodes k (now (received .entry)) (now (word .entry)) (now (message .entry)) (now (distance .entry)) r (now (word .exit)) (now (message .exit)) (now (distance .exit)) ⌝ }
 {
     give_rank(decoder::decode(k, received, word, message), distance)
+}
+
+// The word near a card but for its dead lines, its message, and the rank of what is left of the difference (document 02, P4).
+#[no_mangle]
+pub extern "C" fn lucetcoral_decode_dead(
+    k: u32,
+    received: &[u16],
+    dead_rows: u32,
+    dead_columns: u32,
+    word: &mut [u16],
+    message: &mut [u16],
+    rank: &mut u32,
+) -> u32
+    ensures { λ r. ⌜ DecodesDead k (now (received .entry)) «dead_rows» «dead_columns» (now (word .entry)) (now (message .entry)) (now (rank .entry)) r (now (word .exit)) (now (message .exit)) (now (rank .exit)) ⌝ }
+{
+    give(
+        dead_decoder::decode_dead(k, received, dead_rows, dead_columns, word, message),
+        rank,
+    )
 }
 
 // The number of tunes of a book (document 01: Open).

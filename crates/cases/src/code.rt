@@ -59,3 +59,36 @@ pub(crate) fn decode(line: &[u8], at: usize) {
         &mut message[..m.count],
     );
 }
+
+fn run_decode_dead(
+    k: u32,
+    received: &[u16],
+    rows: u32,
+    columns: u32,
+    word: &mut [u16],
+    message: &mut [u16],
+) {
+    print::answer(dead_decoder::decode_dead(k, received, rows, columns, word, message));
+    print::symbols(word);
+    print::symbols(message);
+}
+
+pub(crate) fn decode_dead(line: &[u8], at: usize) {
+    let mut received = [0u16; 16];
+    let mut word = [0u16; 16];
+    let mut message = [0u16; 16];
+    let k = parse::number(line, at);
+    let rows = parse::number(line, k.at);
+    let columns = parse::number(line, rows.at);
+    let r = parse::symbols(line, columns.at, &mut received);
+    let w = parse::symbols(line, r.at, &mut word);
+    let m = parse::symbols(line, w.at, &mut message);
+    run_decode_dead(
+        k.value,
+        &received[..r.count],
+        rows.value,
+        columns.value,
+        &mut word[..w.count],
+        &mut message[..m.count],
+    );
+}

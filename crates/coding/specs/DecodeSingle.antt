@@ -15,7 +15,8 @@ use Rattle.rank.specs.Definitions.{at, is-card}
 use Rattle.coding.specs.Code.{is-message, radius, Near}
 use Rattle.coding.specs.Coefficients.{inners, higher, coefficients}
 use Rattle.coding.specs.Options.{first-of}
-use Rattle.coding.specs.Decode.{decode, proposals-answer}
+use Rattle.coding.specs.Answers.{proposals-answer}
+use Rattle.coding.specs.Decode.{near-checks, decode}
 use Rattle.coding.specs.Spectrum.{spectrum}
 use Rattle.coding.specs.Errors.{errors, near-rank, errors-beyond}
 use Rattle.coding.specs.RankOne.{Ratio, ratio}
@@ -59,7 +60,7 @@ unfolding decode-four attempt-four if-rank-one
 four-is-decode c card =
     let r = spectrum c in
     answered 4 (lit≤ tt) (lit≤ tt) c card _ (
-    proposals-answer 4 c 27 (λ d. rank-one-fits 4 r (last-error r d)) (λ d. rank-one-message 4 r (last-error r d)) (λ m. at m 7) (λ m near.
+    proposals-answer (near-checks 4 c) 27 (λ d. rank-one-fits 4 r (last-error r d)) (λ d. rank-one-message 4 r (last-error r d)) (λ m. at m 7) (λ m near.
     let R = few-ratio 4 (lit≤ tt) (lit≤ tt) c card m near in (
       last-below c m near,
       near-fits 4 (lit≤ tt) (lit≤ tt) c card m near R _ (last-is c m),

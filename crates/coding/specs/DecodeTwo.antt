@@ -22,7 +22,8 @@ use Rattle.rank.specs.Definitions.{at, is-card}
 use Rattle.coding.specs.Code.{inner, is-message, Near}
 use Rattle.coding.specs.Coefficients.{inners, higher, coefficients, read, read-higher, read-coefficients}
 use Rattle.coding.specs.Options.{first-of}
-use Rattle.coding.specs.Decode.{if-near, decode, proposals-answer}
+use Rattle.coding.specs.Answers.{proposals-answer}
+use Rattle.coding.specs.Decode.{if-near, near-checks, decode}
 use Rattle.coding.specs.Spectrum.{spectrum}
 use Rattle.coding.specs.Errors.{errors, errors-beyond}
 use Rattle.coding.specs.Annihilator.{Annihilated, near-annihilated}
@@ -141,5 +142,5 @@ module _ (c : List ℕ) (card : is-card c ≡ true) where
   pub two-is-decode : decode-two c ≡ decode 2 c
   unfolding decode-two attempt
   two-is-decode = answered 2 (lit≤ tt) (lit≤ tt) c card _ (determinant-answers 2 (lit≤ tt) (lit≤ tt) c card (lit≤ tt) _ (λ n.
-      proposals-answer 2 c 27 (λ a. eqb (high (ninth r (zeroth-error r a))) 0) (proposed r) (λ m. at m 0) (λ m near.
+      proposals-answer (near-checks 2 c) 27 (λ a. eqb (high (ninth r (zeroth-error r a))) 0) (proposed r) (λ m. at m 0) (λ m near.
       (first-below n m near, eq-eqb _ 0 (near-ninth n m near), near-proposed n m near))))

@@ -1,6 +1,6 @@
 -- The error of a card, if a message near it was meant: its coefficients are those of the card less those of the message, and its rank is at
 -- most the radius.
--- Main: errors, error-values, errors-rank, near-rank, errors-beyond, given-back.
+-- Main: errors, taken-back, error-values, errors-rank, near-rank, errors-beyond, given-back.
 use mathlib.Core.Path.{_≡_, sym, ap, ap₂, _∙_, fun-ext}
 use mathlib.Core.Bool.{true}
 use mathlib.Core.List.{List}
@@ -29,7 +29,7 @@ ev-difference : (r f : ℕ → ℕ) (y : ℕ) → ev (table 6 (λ i. minus (r i)
 unfolding ev table
 ev-difference r f y = simp ring
 
-taken-back : (r f : ℕ) → minus r (minus r f) ≡ f % 729
+pub taken-back : (r f : ℕ) → minus r (minus r f) ≡ f % 729
 taken-back r f = simp ring
 
 module _ (k : ℕ) (p : 1 ≤ k) (q : k ≤ 5) (c : List ℕ) (card : is-card c ≡ true) (m : List ℕ) where

@@ -10,6 +10,7 @@ pub mod WordSpectrum
 pub mod Linearity
 -- Decoding as a definition
 pub mod Options
+pub mod Answers
 pub mod Decode
 -- Words are far apart
 pub mod Interpolation

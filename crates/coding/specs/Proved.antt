@@ -14,7 +14,8 @@ use Rattle.coding.specs.Promise.{One-near, Far-apart, Words-cards, Mu-th
 use Rattle.algebra.specs.Tests.{passed}
 use Rattle.rank.specs.Distance.{apart-sym, apart-triangle}
 use Rattle.coding.specs.Coefficients.{word-card}
-use Rattle.coding.specs.Decode.{Answers, decode, decode-answers, answer-near, answer-none, none-answer, near-answer, same-answer}
+use Rattle.coding.specs.Answers.{Answers, answer-holds, answer-none, none-answer, one-answer, same-answer}
+use Rattle.coding.specs.Decode.{decode, decode-answers}
 use Rattle.coding.specs.Apart.{same-message}
 use Rattle.coding.specs.WordSpectrum.{message-of, is-message-of, message-of-word, word-shaped, shaped-word}
 use Rattle.coding.specs.Mu.{mu, mu-is, mu-alone}
@@ -49,9 +50,9 @@ module _ (k : ℕ) (p : 1 ≤ k) (q : k ≤ 5) (c : List ℕ) (card : is-card c 
   near-one m n a b = one-near k c m n p q card a b .0
 
   pub decoded : (m : List ℕ) → (decode k c ≡ some m) ↔ Near k c m
-  decoded m = (answer-near (decode-answers k c), near-answer near-one (decode-answers k c))
+  decoded m = (answer-holds (decode-answers k c), one-answer near-one (decode-answers k c))
 
-  pub answered : (o : Option (List ℕ)) → Answers k c o → o ≡ decode k c
+  pub answered : (o : Option (List ℕ)) → Answers (Near k c) o → o ≡ decode k c
   answered o a = same-answer near-one o (decode k c) a (decode-answers k c)
 
 pub decode-none : (k : ℕ) (c : List ℕ) → (decode k c ≡ none) ↔ ((m : List ℕ) → Near k c m → ⊥)

@@ -1,6 +1,6 @@
 -- Errors of rank at most 1: each coefficient's cube is the same multiple of the next, so two coefficients in a row give all. An annihilated
 -- error has rank at most 1 where the determinant of its last three coefficients is 0.
--- Main: next-error, chain, Ratio, ratio, ratio-of-determinant, chained, near-ratio.
+-- Main: next-error, chain, Ratio, ratio, ratio-of-determinant, chain-none, chained, near-ratio.
 use mathlib.Core.Path.{_≡_, sym, ap, ap₂, _∙_}
 use mathlib.Core.Bool.{true}
 use mathlib.Core.List.{List, [], _∷_}
@@ -165,6 +165,11 @@ next-none : (u v x : ℕ) → Zero v → next-error u v x ≡ 0
 unfolding next-error
 next-none u v x z = ap (λ (t : ℕ). times t (cube x)) (zero-factor v (inverse (cube u)) z) ∙ zero-times (cube x)
 
+pub chain-none : (u v : ℕ) → Zero v → (i : ℕ) → chain u v i ≡ 0
+unfolding chain
+chain-none u v z zero = next-none u v v z
+chain-none u v z (suc i) = next-none u v (chain u v i) z
+
 module _ (e : ℕ → ℕ) (R : Ratio e) where
   step-none : (i : ℕ) → i < 6 → Zero (e ((i + 5) % 6)) → Zero (e i)
   step-none i h z = no-divisors (R .P) (e i) (R .unit) (sym (R .equation i h) ∙ none-cube _ z)
@@ -175,9 +180,7 @@ module _ (e : ℕ → ℕ) (R : Ratio e) where
     all-none (suc i) h = step-none (suc i) (omega arith) (let w : (suc i + 5) % 6 ≡ i = omega arith in rw w (all-none i (omega arith)))
 
     chained-none : (i : ℕ) → i < 6 → chain (e 4) (e 5) i ≡ e i % 729
-    unfolding chain
-    chained-none zero h = next-none _ _ _ z₅ ∙ sym (all-none 0 h)
-    chained-none (suc i) h = next-none _ _ _ z₅ ∙ sym (all-none (suc i) h)
+    chained-none i h = chain-none (e 4) (e 5) z₅ i ∙ sym (all-none i h)
 
   module _ (n₅ : ¬ Zero (e 5)) where
     next-is : (x y : ℕ) → cube x ≡ times (R .P) y → next-error (e 4) (e 5) x ≡ y % 729

@@ -17,7 +17,8 @@ use Rattle.coding.specs.Code.{Near}
 use Rattle.coding.specs.Coefficients.{coefficients, read}
 use Rattle.coding.specs.Spectrum.{spectrum}
 use Rattle.coding.specs.WordSpectrum.{message-back}
-use Rattle.coding.specs.Decode.{if-near, Answers, tested-answers}
+use Rattle.coding.specs.Answers.{Answers, tested-answers}
+use Rattle.coding.specs.Decode.{if-near, near-checks}
 use Rattle.coding.specs.Errors.{errors, errors-beyond, given-back}
 use Rattle.coding.specs.Window.{determinant, determinant-whole}
 use Rattle.coding.specs.RankOne.{chain, Ratio, chained, near-ratio}
@@ -59,18 +60,18 @@ module _ (k : ℕ) (p : 1 ≤ k) (q : k ≤ 4) (c : List ℕ) (card : is-card c 
     near-message = message-back k p five m _ entry (near .message)
 
   -- so it is the answer, if every near message has such an error
-  pub rank-one-answers : (u : ℕ) → ((m : List ℕ) → Near k c m → Ratio (errors k c m) × (u ≡ errors k c m 4)) → Answers k c (if-rank-one k c u)
+  pub rank-one-answers : (u : ℕ) → ((m : List ℕ) → Near k c m → Ratio (errors k c m) × (u ≡ errors k c m 4)) → Answers (Near k c) (if-rank-one k c u)
   unfolding if-rank-one
-  rank-one-answers u h = tested-answers k c _ _ (λ m near. let (R, eu) = h m near in (near-fits m near R u eu, near-message m near R u eu))
+  rank-one-answers u h = tested-answers (near-checks k c) _ _ (λ m near. let (R, eu) = h m near in (near-fits m near R u eu, near-message m near R u eu))
 
   -- FOR k = 1 AND 2 the determinant decides
   abbrev D : ℕ
   D = determinant (spectrum c 3) (spectrum c 4) (spectrum c 5)
 
-  pub determinant-answers : k ≤ 2 → (o : Option (List ℕ)) → (¬ Zero D → Answers k c o) → Answers k c (cond (eqb D 0) (if-rank-one k c (spectrum c 4)) o)
+  pub determinant-answers : k ≤ 2 → (o : Option (List ℕ)) → (¬ Zero D → Answers (Near k c) o) → Answers (Near k c) (cond (eqb D 0) (if-rank-one k c (spectrum c 4)) o)
   determinant-answers two o h = go (eqb D 0) refl
     where
-      go : (b : Bool) → eqb D 0 ≡ b → Answers k c (cond b (if-rank-one k c (spectrum c 4)) o)
+      go : (b : Bool) → eqb D 0 ≡ b → Answers (Near k c) (cond b (if-rank-one k c (spectrum c 4)) o)
       go true e = rank-one-answers (spectrum c 4) (λ m near.
           (near-ratio k p two c card m near (eqb-true D 0 e), sym (errors-beyond k p five c card m 4 (omega arith))))
       go false e = h (λ z. eqb-false D 0 e (sym (determinant-whole _ _ _) ∙ z))

@@ -1,6 +1,6 @@
 -- Errors of rank 2 as the code goes: for k = 1 what is solved by the window, for k = 2 the constants that all proposals share and what is
 -- computed from them.
--- Main: double-by, one-single, one-double, value-at, Prepared, ninth-by, inner-by, attempt-some, attempt-none, two-single, two-found, two-none.
+-- Main: pair-by, one-single, one-double, value-at, Prepared, ninth-by, inner-by, attempt-some, attempt-none, two-single, two-found, two-none.
 use mathlib.Core.Path.{_≡_, refl, sym, ap, _∙_}
 use mathlib.Core.Logic.{_≢_}
 use mathlib.Core.Bool.{true}
@@ -31,21 +31,18 @@ use Rattle.decoder.specs.declared.window.Annihilator.{Annihilator}
 use Rattle.decoder.specs.declared.two.Affine.{Affine}
 use Rattle.decoder.specs.declared.two.Shared.{Shared}
 
--- k = 1: THE MESSAGE solved by the window
-pub double-by : (r : ℕ → ℕ) (a : Annihilator) → Annihilates (r 2) (r 3) (r 4) (r 5) a → (f₀ e₀ f₁ m₀ m₁ : ℕ)
+-- k = 1: THE COEFFICIENTS solved by the window
+pub pair-by : (r : ℕ → ℕ) (a : Annihilator) → Annihilates (r 2) (r 3) (r 4) (r 5) a → (f₀ e₀ f₁ : ℕ)
     → f₀ ≡ add (r 0) (times (cube (a .inverse)) (add (times (cube (cube (r 4))) (a .determinant)) (times (a .numerator) (cube (r 5))))) → e₀ ≡ minus (r 0) f₀
-    → f₁ ≡ add (r 1) (times (cube (a .inverse)) (add (times (cube (cube (r 5))) (a .determinant)) (times (a .numerator) (cube e₀)))) → m₀ ≡ low f₀ → m₁ ≡ high f₁
-    → m₀ ∷ m₁ ∷ [] ≡ double r
-unfolding double zeroth first
-double-by r a s f₀ e₀ f₁ m₀ m₁ h₀ e h₁ h₂ h₃ = rw (h₂, h₃, solved-by s f₁ (r 1) (r 5) e₀ h₁, e, solved-by s f₀ (r 0) (r 4) (r 5) h₀)
+    → f₁ ≡ add (r 1) (times (cube (a .inverse)) (add (times (cube (cube (r 5))) (a .determinant)) (times (a .numerator) (cube e₀))))
+    → f₀ ∷ f₁ ∷ [] ≡ zeroth r ∷ first r ∷ []
+unfolding zeroth first
+pair-by r a s f₀ e₀ f₁ h₀ e h₁ = rw (solved-by s f₁ (r 1) (r 5) e₀ h₁, e, solved-by s f₀ (r 0) (r 4) (r 5) h₀)
 
+-- and the message of them
 pub parts-message : (x y : ℕ) → is-message 1 (low x ∷ high y ∷ []) ≡ true
 unfolding is-message
 parts-message x y = passes 2 26 (low x ∷ high y ∷ []) refl (low-below x, (high-below y, tt))
-
-pub double-message : (r : ℕ → ℕ) → is-message 1 (double r) ≡ true
-unfolding double
-double-message r = parts-message (zeroth r) (first r)
 
 module _ (c : List ℕ) (card : is-card c ≡ true) (r : List ℕ) (e : r ≡ table 6 (spectrum c)) (d : ℕ) (ed : d ≡ determinant (at r 3) (at r 4) (at r 5)) where
   pub one-single : d ≡ 0 → if-rank-one 1 c (at r 4) ≡ decode 1 c
@@ -56,9 +53,9 @@ module _ (c : List ℕ) (card : is-card c ≡ true) (r : List ℕ) (e : r ≡ ta
   unfolding double zeroth first at table
   double-spectrum = ap (λ (x : List ℕ). double (at x)) e
 
-  pub one-double : d ≢ 0 → (m : List ℕ) → m ≡ double (at r) → if-near 1 c m ≡ decode 1 c
-  unfolding decode-one
-  one-double n m h = rw (h ∙ double-spectrum) (sym (rw (determinant-some c r e d ed n)) ∙ one-is-decode c card)
+  pub one-double : d ≢ 0 → (f m : List ℕ) → f ≡ zeroth (at r) ∷ first (at r) ∷ [] → m ≡ low (at f 0) ∷ high (at f 1) ∷ [] → if-near 1 c m ≡ decode 1 c
+  unfolding decode-one double at
+  one-double n f m ef h = rw (h, ef, double-spectrum) (sym (rw (determinant-some c r e d ed n)) ∙ one-is-decode c card)
 
 -- k = 2: A NUMBER that changes with the message's first symbol
 unfoldable pub value-at : (l : Affine) → (symbol : ℕ) → ℕ

@@ -6,4 +6,5 @@ pub mod Singles
 -- Errors of rank 2: k = 1 and 2
 pub mod Doubles
 -- What decode answers
+pub mod Filling
 pub mod Decoding

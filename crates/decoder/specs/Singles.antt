@@ -1,5 +1,5 @@
 -- Errors of rank at most 1 as the code goes: the residual of a card's spectrum, and what is found by it; for k = 3 and 4 the answers.
--- Main: unfit, fit, last-single, three-single, four-some, four-none.
+-- Main: residual-of, unfit, fit, last-single, three-single, four-some, four-none.
 use mathlib.Core.Path.{_≡_, refl, sym, ap, ap₂, _∙_}
 use mathlib.Core.Logic.{_≢_}
 use mathlib.Core.Bool.{Bool, true, false, _&&_}
@@ -8,11 +8,13 @@ use mathlib.Core.Option.{none}
 use Prim.Native.Nat.{ℕ, suc, _≤_}
 use native.Mathlib.Omega.{arith}
 use lib.Dec.{lit<}
+use lib.ListN.{length}
 use borrow.Author.Tests.{ne-eqb}
 use Rattle.algebra.specs.Field.{minus, times, small, gamma}
 use Rattle.algebra.specs.Lists.{table}
 use Rattle.algebra.specs.SmallField.{high}
 use Rattle.rank.specs.Definitions.{at, is-card, difference}
+use Rattle.rank.specs.Arrays.{six}
 use Rattle.coding.specs.Coefficients.{read}
 use Rattle.coding.specs.Spectrum.{spectrum}
 use Rattle.coding.specs.RankOne.{next-error, chain}
@@ -26,12 +28,17 @@ unless-both : (b : Bool) → (b && false) ≡ false
 unless-both true = refl
 unless-both false = refl
 
+-- the residual of an array of six
+pub residual-of : (r e : List ℕ) (u : ℕ) → length r ≡ 6 → e ≡ table 6 (chain u (at r 5)) → difference r e ≡ table 6 (residual (at r) u)
+unfolding difference residual table at
+residual-of r e u l ee = rw ee (ap (λ (x : List ℕ). difference x (table 6 (chain u (at r 5)))) (sym (six r l)))
+
 module _ (c r : List ℕ) (er : r ≡ table 6 (spectrum c)) where
   -- THE RESIDUAL of a card's spectrum, with u before its last coefficient
-  module _ (u : ℕ) (e f : List ℕ) (ee : e ≡ table 6 (chain u (at r 5))) (ef : f ≡ difference r e) where
+  module _ (u : ℕ) (f : List ℕ) (ef : f ≡ table 6 (residual (at r) u)) where
     residual-is : f ≡ table 6 (residual (spectrum c) u)
-    unfolding difference residual table at
-    residual-is = rw (ef, ee, er)
+    unfolding residual table at
+    residual-is = rw (ef, er)
 
     -- is a word's, or not
     module _ (k : ℕ) (q : k ≤ 4) where

@@ -11,8 +11,9 @@ ghost use Rattle.coding.specs.Decode.{decode};
 ghost use Rattle.refusal.specs.Replies.{outcome};
 ghost use Rattle.candidate.specs.Finding.{found-message, Consistent};
 ghost use Rattle.decoder.specs.Decoding.{decode-tests, Decoded};
+ghost use Rattle.decoder.specs.Filling.{Filled};
 use crate::one::decode_one;
-use crate::one::shown;
+use crate::one::two_numbers;
 use crate::single::decode_four;
 use crate::single::find_single;
 use crate::two::decode_two;
@@ -54,7 +55,7 @@ pub fn decode_card(k: usize, card: [u16; 6]) -> Found
     ensures { λ f. ⌜ (found-message k f ≡ decode k card) × Consistent k card f ⌝ }
 {
     if k == 1 {
-        let message = shown(card[0]);
+        let message = two_numbers(card[0], card[0]);
         let word = codec::word_of(1, message);
         if same(word, card) {
             return undamaged(1, card, message);
@@ -84,7 +85,7 @@ fn decode_list(k: usize, received: &[u16]) -> Found
 }
 
 // The tests of a card, and of the room for its word and its message.
-fn decode_tests(k: u32, card: &[u16], word: usize, message: usize) -> Outcome
+pub fn decode_tests(k: u32, card: &[u16], word: usize, message: usize) -> Outcome
     ensures { λ r. ⌜ outcome r ≡ decode-tests k (now (card .entry)) word message ⌝ }
 {
     if card.len() != 6 {
@@ -92,6 +93,21 @@ fn decode_tests(k: u32, card: &[u16], word: usize, message: usize) -> Outcome
     }
     let fit = codec::lengths_fit(word, 6, message, 2 * (k as usize));
     codec::test_input(k, fit, card, 728)
+}
+
+// Fills a word and a message with what was found, or refuses.
+pub fn fill_found(near: Found, word: &mut [u16], message: &mut [u16]) -> Outcome
+    requires { ⌜ (near .found ≡ true → (length (near .word) ≡ length (now word)) × (length (now message) ≤ length (near .message))) ⌝ }
+    ensures { λ r. ⌜ Filled near (now (word .entry)) (now (message .entry)) r (now (word .exit)) (now (message .exit)) ⌝ }
+{
+    if !near.found {
+        return Outcome::Refused(Refusal::Undecodable);
+    }
+    let w = near.word;
+    let m = near.message;
+    lists::fill(word, &w);
+    lists::fill(message, &m);
+    Outcome::Done
 }
 
 // Fills the word near a card and its message, and answers the weight of the difference between word and card (document 01: Mend).
@@ -103,13 +119,9 @@ pub fn decode(k: u32, received: &[u16], word: &mut [u16], message: &mut [u16]) -
         return Weighed::Refused(why);
     }
     let near = decode_list(k as usize, received);
-    if !near.found {
-        return Weighed::Refused(Refusal::Undecodable);
-    }
-    let w = near.word;
-    let m = near.message;
-    lists::fill(word, &w);
-    lists::fill(message, &m);
     let weight = near.weight;
-    Weighed::Weight(weight)
+    match fill_found(near, word, message) {
+        Outcome::Refused(why) => Weighed::Refused(why),
+        Outcome::Done => Weighed::Weight(weight),
+    }
 }

@@ -8,8 +8,15 @@ mod window;
 
 pub use decoding::decode;
 pub use decoding::decode_card;
+pub use decoding::decode_tests;
+pub use decoding::fill_found;
+pub use one::solved_pair;
+pub use single::residual;
+pub use two::Affine;
+pub use two::value_at;
 pub use window::Annihilator;
 pub use window::annihilator_of;
 pub use window::determinant;
+pub use window::ninth_product;
 pub use window::numerator;
 pub use window::solved;

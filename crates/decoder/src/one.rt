@@ -1,5 +1,4 @@
-// Decoding for k = 1: four of the error's coefficients are the card's, and the other two are solved by them. What the first symbol of a card
-// without damage shows stands here too.
+// Decoding for k = 1: four of the error's coefficients are the card's, and the other two are solved by them.
 ghost use mathlib.Core.Path.{_≡_};
 ghost use mathlib.Core.Bool.{true};
 ghost use mathlib.Core.List.{[], _∷_};
@@ -9,26 +8,33 @@ ghost use Rattle.algebra.specs.SmallField.{low, high};
 ghost use Rattle.rank.specs.Definitions.{at, is-card};
 ghost use Rattle.field.specs.Tables.{Tables};
 ghost use Rattle.coding.specs.Spectrum.{spectrum};
-ghost use Rattle.coding.specs.DecodeOne.{double};
+ghost use Rattle.coding.specs.Window.{determinant};
+ghost use Rattle.coding.specs.DecodeOne.{zeroth, first};
 ghost use Rattle.coding.specs.Decode.{decode};
 ghost use Rattle.candidate.specs.Finding.{found-message, Consistent};
-ghost use Rattle.decoder.specs.Windows.{Annihilates};
 use crate::single::find_single;
-use crate::window::Annihilator;
 use crate::window::annihilator_of;
 use crate::window::determinant;
 use crate::window::solved;
 use candidate::Found;
 use candidate::near;
 
-// The message where the error has rank 2.
-fn double(r: [u16; 6], a: Annihilator, logs: &[u16; 729], powers: &[u16; 728]) -> [u16; 10]
-    requires { ⌜ Annihilates (at r 2) (at r 3) (at r 4) (at r 5) a × Tables (now logs) (now powers) ⌝ }
-    ensures { λ m. ⌜ take 2 m ≡ double (at r) ⌝ }
+// The message's two coefficients where the error has rank 2, and its last three coefficients this determinant.
+pub fn solved_pair(r: [u16; 6], known: u16, logs: &[u16; 729], powers: &[u16; 728]) -> [u16; 2]
+    requires { ⌜ (known ≡ determinant (at r 3) (at r 4) (at r 5)) × Tables (now logs) (now powers) ⌝ }
+    ensures { λ f. ⌜ f ≡ zeroth (at r) ∷ first (at r) ∷ [] ⌝ }
 {
+    let a = annihilator_of(r[2], r[3], r[4], r[5], known, logs, powers);
     let f0 = solved(a, r[0], r[4], r[5], logs, powers);
     let e0 = field::difference(r[0], f0);
     let f1 = solved(a, r[1], r[5], e0, logs, powers);
+    [f0, f1]
+}
+
+// The message with these two coefficients.
+pub(crate) fn two_numbers(f0: u16, f1: u16) -> [u16; 10]
+    ensures { λ m. ⌜ take 2 m ≡ low f0 ∷ high f1 ∷ [] ⌝ }
+{
     [field::low(f0), field::high(f1), 0, 0, 0, 0, 0, 0, 0, 0]
 }
 
@@ -46,13 +52,6 @@ pub(crate) fn decode_one(
     if known == 0 {
         return find_single(1, card, r, r[4], logs, powers);
     }
-    let a = annihilator_of(r[2], r[3], r[4], r[5], known, logs, powers);
-    near(card, 1, double(r, a, logs, powers))
-}
-
-// The message that a word's first symbol shows.
-pub(crate) fn shown(c: u16) -> [u16; 10]
-    ensures { λ m. ⌜ take 2 m ≡ low c ∷ high c ∷ [] ⌝ }
-{
-    [field::low(c), field::high(c), 0, 0, 0, 0, 0, 0, 0, 0]
+    let f = solved_pair(r, known, logs, powers);
+    near(card, 1, two_numbers(f[0], f[1]))
 }

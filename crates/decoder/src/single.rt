@@ -11,7 +11,7 @@ ghost use Rattle.rank.specs.Definitions.{at, is-card};
 ghost use Rattle.field.specs.Tables.{Tables};
 ghost use Rattle.coding.specs.Spectrum.{spectrum};
 ghost use Rattle.coding.specs.RankOne.{next-error, chain};
-ghost use Rattle.coding.specs.Residual.{if-rank-one};
+ghost use Rattle.coding.specs.Residual.{residual, if-rank-one};
 ghost use Rattle.coding.specs.Decode.{decode};
 ghost use Rattle.coding.specs.DecodeSingle.{last-error, attempt-four};
 ghost use Rattle.candidate.specs.Finding.{found-message, Consistent};
@@ -45,6 +45,14 @@ fn chain_of(u: u16, v: u16, logs: &[u16; 729], powers: &[u16; 728]) -> [u16; 6]
     [e0, e1, e2, e3, e4, e5]
 }
 
+// A spectrum less the error of rank at most 1 that has its last coefficient, and u before that.
+pub fn residual(r: [u16; 6], u: u16, logs: &[u16; 729], powers: &[u16; 728]) -> [u16; 6]
+    requires { ⌜ Tables (now logs) (now powers) ⌝ }
+    ensures { λ f. ⌜ f ≡ table 6 (residual (at r) u) ⌝ }
+{
+    difference(r, chain_of(u, r[5], logs, powers))
+}
+
 // The message near a card whose error has rank at most 1 and u before its last coefficient, if there is one.
 pub(crate) fn find_single(
     k: usize,
@@ -57,8 +65,7 @@ pub(crate) fn find_single(
     requires { ⌜ (1 ≤ k) × (k ≤ 4) × (r ≡ table 6 (spectrum card)) × Tables (now logs) (now powers) ⌝ }
     ensures { λ f. ⌜ (found-message k f ≡ if-rank-one k card u) × Consistent k card f ⌝ }
 {
-    let e = chain_of(u, r[5], logs, powers);
-    let f = difference(r, e);
+    let f = residual(r, u, logs, powers);
     if !is_word(k, f) {
         return nothing();
     }

@@ -46,7 +46,7 @@ pub struct Shared {
     pub inverse: u16,
 }
 
-fn value_at(l: Affine, x: u16, logs: &[u16; 729], powers: &[u16; 728]) -> u16
+pub fn value_at(l: Affine, x: u16, logs: &[u16; 729], powers: &[u16; 728]) -> u16
     requires { ⌜ Tables (now logs) (now powers) ⌝ }
     ensures { λ v. ⌜ v ≡ value-at l x ⌝ }
 {

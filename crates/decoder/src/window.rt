@@ -15,7 +15,7 @@ pub struct Annihilator {
 }
 
 // a times the ninth power of b, which is the cube of its cube.
-pub(crate) fn ninth_product(a: u16, b: u16, logs: &[u16; 729], powers: &[u16; 728]) -> u16
+pub fn ninth_product(a: u16, b: u16, logs: &[u16; 729], powers: &[u16; 728]) -> u16
     requires { ⌜ Tables (now logs) (now powers) ⌝ }
     ensures { λ v. ⌜ v ≡ times (cube (cube b)) a ⌝ }
 {

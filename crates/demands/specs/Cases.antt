@@ -13,7 +13,8 @@ use Rattle.rank.specs.Definitions.{at, is-card, columns, subtract, pivot, clear
 use Rattle.coding.specs.Code.{inner, inner-sum, value, word-from, word, radius}
 use Rattle.coding.specs.LowRank.{zero-word, word-zero, zero-apart, low-rank-zero, low-rank-none}
 use Rattle.codec.specs.Operations.{k-bad, tests}
-use Rattle.decoder.specs.Decoding.{undecodable, or-empty, decode-tests, decode-refusal, decoded-word}
+use Rattle.decoder.specs.Filling.{undecodable, or-empty, or-undecodable}
+use Rattle.decoder.specs.Decoding.{lengths-bad, decode-tests, decode-refusal, decoded-word}
 
 -- A CASE: symbol 3 to some powers; a cube; small numbers as symbols; a message and its word; a card and the word and rank it is decoded to;
 -- a card that decoding refuses by a number
@@ -54,17 +55,17 @@ cases =
 -- THE CARDS are all of low rank
 module _ (k : ℕ) (p : 1 ≤ k) (q : k ≤ 5) (c : List ℕ) (card : is-card c ≡ true) (tests : decode-tests k c 6 (2 * k) ≡ 0) (r : ℕ) (ranked : rank c ≡ r) where
   to-zero : r ≤ radius k → Holds (decodes k c zero-word r)
-  unfolding decode-refusal decoded-word undecodable or-empty
+  unfolding decode-refusal or-undecodable decoded-word undecodable or-empty
   to-zero l =
       let e = low-rank-zero k p q c card (rw ranked l) in
       (rw (tests, e), rw e (word-zero k p q), rw e (zero-apart k p q c card ∙ ranked))
 
   to-none : r + radius k + k < 7 → radius k < r → Holds (refuses k c 4)
-  unfolding decode-refusal undecodable
+  unfolding decode-refusal or-undecodable undecodable
   to-none l f = rw (tests, low-rank-none k p q c card (rw ranked l) (rw ranked f))
 
 pub cases-hold : All Holds cases
-unfolding computing power word word-from value inner-sum inner at radius zero-word is-card any-above decode-tests tests k-bad columns subtract pivot cleared rank-with rank-from rank
+unfolding computing power word word-from value inner-sum inner at radius zero-word is-card any-above decode-tests lengths-bad tests k-bad columns subtract pivot cleared rank-with rank-from rank
 cases-hold = (
   refl,
   (

@@ -1,9 +1,11 @@
 -- The page that a sceptic reads first: what each operation answers and leaves in the lists lent to it, in the words of SPECIFICATION 8.
 -- src/lib.rt promises it of the operations themselves. To be read with rank/Definitions, rank/Weight, coding/Code, coding/Promise, strike/Strikes,
--- book/Layout and book/Open; for Write also with strike/Turns, writer/Writing and `Shows` of writer/Shown. What holds of written books is `Books-say`
--- (WrittenBooks). Answers are replies (refusal/Replies): `outcome`, `reply`, `weight-reply` (rank/Weight), `read-reply` (book/Reading) and
--- `worn-reply` (book/Bodies) give them for each case of an enum. A message or a list mu that is named here is the only one of its kind.
--- Main: Code-says, Press-says, Weigh-says, Test-says, Mend-says, Open-says, Pull-says, Read-says, Length-says, Worn-says, Write-says, Size-says.
+-- book/Layout and book/Open; for dead lines also with dead_lines/Struck and `ones` of rank/Mask; for Write with strike/Turns, writer/Writing and
+-- `Shows` of writer/Shown. What holds of written books is `Books-say` (WrittenBooks). Answers are replies (refusal/Replies): `outcome`, `reply`,
+-- `weight-reply` (rank/Weight), `read-reply` (book/Reading) and `worn-reply` (book/Bodies) give them for each case of an enum. A message or a list mu
+-- that is named here is the only one of its kind.
+-- Main: Code-says, Press-says, Weigh-says, Test-says, Mend-says, Mend-dead-says, Mends-alike, Open-says, Pull-says, Read-says, Length-says,
+-- Worn-says, Write-says, Size-says.
 --
 -- THE FIRST DEMAND: every operation ends, does nothing undefined, refuses bad input by number in a fixed order, and then changes nothing.
 -- That it ends and does nothing undefined is what a proof in Rattle is, and no operation has a `requires`. Each `-refusal` below has the numbers
@@ -11,7 +13,7 @@
 -- THE SECOND: encoding, testing and reading agree with the code exactly.
 -- THE THIRD: for every k from 1 to 5 and every card, decoding finds the one word within the radius, or refuses exactly if there is none.
 use mathlib.Core.Path.{_≡_}
-use mathlib.Core.Logic.{_⊎_, _≢_}
+use mathlib.Core.Logic.{_⊎_, _≢_, _↔_}
 use mathlib.Core.Bool.{Bool, true, false, _&&_, _||_, not, cond}
 use mathlib.Core.List.{List, []}
 use mathlib.Core.Option.{Option, none, some}
@@ -27,6 +29,7 @@ use Rattle.rank.specs.Distance.{Rank-even}
 use Rattle.rank.specs.Weight.{weight-of, no-weight}
 use Rattle.coding.specs.Code.{word, Near, test-values}
 use Rattle.coding.specs.Promise.{One-near, Far-apart, Words-cards, Mu, Mu-there, Test-tells}
+use Rattle.dead_lines.specs.Struck.{dead-lines, live-rank, NearDead, One-near-dead}
 use Rattle.codec.specs.Operations.{k-bad}
 use Rattle.strike.specs.Strikes.{strike-of}
 use Rattle.strike.specs.Turns.{any-beyond}
@@ -36,7 +39,11 @@ use Rattle.book.specs.Reading.{Card-value, no-value, cards-in}
 use Rattle.writer.specs.Writing.{all-cards, any-zero, book-bytes}
 use Rattle.writer.specs.Shown.{Shows}
 
--- THE CODE ITSELF: One-near is the third demand's, the others are the second's
+-- with no dead line, the messages near a card but for its dead lines are those near it
+unfoldable pub Near-alike : Type 0
+Near-alike = (k : ℕ) (c m : List ℕ) → NearDead k 0 0 c m ↔ Near k c m
+
+-- THE CODE ITSELF: One-near is the third demand's, the next two are its like for dead lines, the others are the second's
 pub record Code-says : Type 0 where
   pub small-field : Small-field
   pub rank-even : Rank-even
@@ -45,6 +52,8 @@ pub record Code-says : Type 0 where
   pub mu-there : Mu-there
   pub test-tells : Test-tells
   pub one-near : One-near
+  pub one-near-dead : One-near-dead
+  pub near-alike : Near-alike
 
 -- the one message near a card, and that there is none
 abbrev pub The-near : (k : ℕ) → (c m : List ℕ) → Type 0
@@ -52,6 +61,13 @@ The-near k c m = Near k c m × ((p : List ℕ) → Near k c p → p ≡ m)
 
 abbrev pub None-near : (k : ℕ) → (c : List ℕ) → Type 0
 None-near k c = (p : List ℕ) → Near k c p → ⊥
+
+-- the same but for dead rows ρ and dead columns σ
+abbrev pub The-near-dead : (k ρ σ : ℕ) → (c m : List ℕ) → Type 0
+The-near-dead k ρ σ c m = NearDead k ρ σ c m × ((p : List ℕ) → NearDead k ρ σ c p → p ≡ m)
+
+abbrev pub None-near-dead : (k ρ σ : ℕ) → (c : List ℕ) → Type 0
+None-near-dead k ρ σ c = (p : List ℕ) → NearDead k ρ σ c p → ⊥
 
 -- PRESS: 1 for k, 2 for a length, 3 for a value above 26; else the word of the message
 unfoldable pub press-refusal : (k : ℕ) → (m : List ℕ) → (room : ℕ) → ℕ
@@ -98,6 +114,32 @@ Mend-as (suc x) k c r w v m n = (v ≡ w) × (n ≡ m) × (r ≡ refused-with no
 
 unfoldable pub Mend-says : (k : ℕ) → (c : List ℕ) → Reply Weight → (w w-now m m-now : List ℕ) → Type 0
 Mend-says k c r w v m n = Mend-as (mend-refusal k c (length w) (length m)) k c r w v m n
+
+-- MEND WITH DEAD LINES (document 02, P4): 1; 2; 3 for a symbol, or for a mask above 63; 11 for more than 6 - k dead lines; else mended but for dead
+-- rows ρ and columns σ, with the rank of what is left of the difference when they are struck out, or hopeless, 4
+unfoldable pub mend-dead-refusal : (k : ℕ) → (c : List ℕ) → (ρ σ w m : ℕ) → ℕ
+mend-dead-refusal k c ρ σ w m =
+    cond (k-bad k) 1
+    (cond (not (eqb (length c) 6 && (eqb w 6 && eqb m (2 * k)))) 2
+    (cond (any-above 728 c || (ltb 63 ρ || ltb 63 σ)) 3 (cond (ltb (6 - k) (dead-lines ρ + dead-lines σ)) 11 0)))
+
+unfoldable pub Mended-dead : (k : ℕ) → (c : List ℕ) → (ρ σ : ℕ) → Reply ℕ → (w-now m-now : List ℕ) → Type 0
+Mended-dead k c ρ σ r v n = The-near-dead k ρ σ c n × (v ≡ word k n) × (r ≡ replied (live-rank ρ σ (word k n) c))
+
+unfoldable pub Hopeless-dead : (k : ℕ) → (c : List ℕ) → (ρ σ : ℕ) → Reply ℕ → (w w-now m m-now : List ℕ) → Type 0
+Hopeless-dead k c ρ σ r w v m n = None-near-dead k ρ σ c × (v ≡ w) × (n ≡ m) × (r ≡ refused-with 0 4)
+
+unfoldable pub Mend-dead-as : (refusal : ℕ) → (k : ℕ) → (c : List ℕ) → (ρ σ : ℕ) → Reply ℕ → (w w-now m m-now : List ℕ) → Type 0
+Mend-dead-as zero k c ρ σ r w v m n = Mended-dead k c ρ σ r v n ⊎ Hopeless-dead k c ρ σ r w v m n
+Mend-dead-as (suc x) k c ρ σ r w v m n = (v ≡ w) × (n ≡ m) × (r ≡ refused-with 0 (suc x))
+
+unfoldable pub Mend-dead-says : (k : ℕ) → (c : List ℕ) → (ρ σ : ℕ) → Reply ℕ → (w w-now m m-now : List ℕ) → Type 0
+Mend-dead-says k c ρ σ r w v m n = Mend-dead-as (mend-dead-refusal k c ρ σ (length w) (length m)) k c ρ σ r w v m n
+
+-- with both masks 0 it agrees with Mend: if Mend-says holds of an answer s and lists u, o, then the refusal, the rank and the lists are the same
+unfoldable pub Mends-alike : (k : ℕ) → (c : List ℕ) → Reply ℕ → (w w-now m m-now : List ℕ) → Type 0
+Mends-alike k c r w v m n =
+    (s : Reply Weight) (u o : List ℕ) → Mend-says k c s w u m o → (r .refusal ≡ s .refusal) × (r .value ≡ s .value .rank) × (v ≡ u) × (n ≡ o)
 
 -- OPEN: 5, 6, 7; else the number of tunes
 unfoldable pub opening-refusal : List ℕ → ℕ

@@ -3,7 +3,7 @@
 pub mod Demands
 -- What is said leaves nothing free
 pub mod Settled
--- What is said holds: of the code, Press, Weigh, Test and Mend; of Open, Pull, Read, Length, Worn, Write and Size
+-- What is said holds: of the code, Press, Weigh, Test and Mend, also with dead lines; of Open, Pull, Read, Length, Worn, Write and Size
 pub mod CardDemands
 pub mod BookDemands
 -- What holds of written books, stated and proved

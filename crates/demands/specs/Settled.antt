@@ -1,6 +1,6 @@
 -- What is said leaves nothing free: two answers of which a statement holds are the same, and so are the lists left behind. Press, Weigh, Open, Write
 -- and Size are equations already; each other statement is its `-as` at a number x, that of Worn at a test, and that of Length in its sum.
--- Main: test-settled, mend-settled, pull-settled, read-settled, delays-settled, worn-settled.
+-- Main: test-settled, mend-settled, mend-dead-settled, pull-settled, read-settled, delays-settled, worn-settled.
 use mathlib.Core.Path.{_≡_, refl, sym, ap, _∙_}
 use mathlib.Core.Logic.{inl, inr}
 use mathlib.Core.Bool.{Bool, true, false}
@@ -12,7 +12,7 @@ use Rattle.refusal.specs.Replies.{Reply}
 use Rattle.rank.specs.declared.Weight.{Weight}
 use Rattle.book.specs.Layout.{card}
 use Rattle.book.specs.Reading.{Card-value}
-use Rattle.demands.specs.Demands.{Test-as, Mend-as, Mended, Hopeless, Pull-as, Pulled, Missing}
+use Rattle.demands.specs.Demands.{Test-as, Mend-as, Mended, Hopeless, Mend-dead-as, Mended-dead, Hopeless-dead, Pull-as, Pulled, Missing}
 use Rattle.demands.specs.Demands.{reading-refusal, Read-as, Read-card, Read-strike, Read-says, Delays, at-end, one-card, Worn-card, Worn-as}
 
 module _ (k : ℕ) (c t : List ℕ) (r s : ℕ) (y z : List ℕ) where
@@ -29,6 +29,15 @@ module _ (k : ℕ) (c w m : List ℕ) (r s : Reply Weight) (v u n o : List ℕ) 
   mend-settled zero (inr a) (inl b) = absurd (a .0 o (b .0 .0))
   mend-settled zero (inr a) (inr b) = ((cc), (cc), (cc))
   mend-settled (suc x) a b = ((cc), (cc), (cc))
+
+module _ (k : ℕ) (c : List ℕ) (ρ σ : ℕ) (w m : List ℕ) (r s : Reply ℕ) (v u n o : List ℕ) where
+  pub mend-dead-settled : (x : ℕ) → Mend-dead-as x k c ρ σ r w v m n → Mend-dead-as x k c ρ σ s w u m o → (r ≡ s) × (v ≡ u) × (n ≡ o)
+  unfolding Mend-dead-as Mended-dead Hopeless-dead
+  mend-dead-settled zero (inl a) (inl b) = let same = a .0 .1 o (b .0 .0) in ((cc), (cc), (cc))
+  mend-dead-settled zero (inl a) (inr b) = absurd (b .0 n (a .0 .0))
+  mend-dead-settled zero (inr a) (inl b) = absurd (a .0 o (b .0 .0))
+  mend-dead-settled zero (inr a) (inr b) = ((cc), (cc), (cc))
+  mend-dead-settled (suc x) a b = ((cc), (cc), (cc))
 
 module _ (bs : List ℕ) (t r s : ℕ) (p q : List ℕ) where
   pub pull-settled : (x : ℕ) → Pull-as x bs t r p → Pull-as x bs t s q → (r ≡ s) × (p ≡ q)

@@ -6,7 +6,7 @@ ghost use Rattle.refusal.specs.Replies.{outcome, reply};
 ghost use Rattle.rank.specs.Weight.{weight-reply};
 ghost use Rattle.book.specs.Reading.{read-reply};
 ghost use Rattle.book.specs.Bodies.{worn-reply};
-ghost use Rattle.demands.specs.Demands.{Press-says, Weigh-says, Test-says, Mend-says};
+ghost use Rattle.demands.specs.Demands.{Press-says, Weigh-says, Test-says, Mend-says, Mend-dead-says, Mends-alike};
 ghost use Rattle.demands.specs.Demands.{Open-says, Pull-says, Read-says, Length-says, Worn-says, Write-says, Size-says};
 use book::Reading;
 use book::Worn;
@@ -40,6 +40,28 @@ pub fn decode(k: u32, received: &[u16], word: &mut [u16], message: &mut [u16]) -
     ensures { λ r. ⌜ Mend-says k (now (received .entry)) (weight-reply r) (now (word .entry)) (now (word .exit)) (now (message .entry)) (now (message .exit)) ⌝ }
 {
     decoder::decode(k, received, word, message)
+}
+
+// The lists are filled with the one word near the card but for its dead lines and its message, or the refusal is 4 exactly if no word is near so
+// (document 02, P4).
+pub fn decode_dead(
+    k: u32,
+    received: &[u16],
+    rows: u32,
+    columns: u32,
+    word: &mut [u16],
+    message: &mut [u16],
+) -> Answer
+    ensures { λ r. ⌜ Mend-dead-says k (now (received .entry)) rows columns (reply r) (now (word .entry)) (now (word .exit)) (now (message .entry)) (now (message .exit)) ⌝ }
+{
+    dead_decoder::decode_dead(k, received, rows, columns, word, message)
+}
+
+// With no dead line it answers and fills in what Mend does (document 02, P4).
+pub fn decode_none_dead(k: u32, received: &[u16], word: &mut [u16], message: &mut [u16]) -> Answer
+    ensures { λ r. ⌜ Mends-alike k (now (received .entry)) (reply r) (now (word .entry)) (now (word .exit)) (now (message .entry)) (now (message .exit)) ⌝ }
+{
+    dead_decoder::decode_dead(k, received, 0, 0, word, message)
 }
 
 // The answer is the number of tunes (document 01: Open).

@@ -7,7 +7,7 @@ pub enum Refusal {
     Dimension,
     // 2: a list has the wrong length.
     Length,
-    // 3: a symbol above 728, or a value above 26.
+    // 3: a symbol above 728, a value above 26, or a mask above 63.
     Range,
     // 4: no codeword lies within the radius.
     Undecodable,
@@ -23,6 +23,8 @@ pub enum Refusal {
     NoSuchCard,
     // 10: a number of a strike out of its range.
     StrikeField,
+    // 11: more dead lines than 6 - k.
+    DeadLines,
 }
 
 // The answer of an operation that has nothing to say but that it is done.
@@ -52,6 +54,7 @@ pub fn number(r: Refusal) -> u32
         Refusal::NoSuchTune => 8,
         Refusal::NoSuchCard => 9,
         Refusal::StrikeField => 10,
+        Refusal::DeadLines => 11,
     }
 }
 

@@ -19,7 +19,8 @@ use Rattle.coding.specs.Code.{word}
 use Rattle.coding.specs.Decode.{decode}
 use Rattle.coding.specs.Promise.{Words-cards}
 use Rattle.coding.specs.Proved.{words-cards}
-use Rattle.decoder.specs.Decoding.{undecodable, or-empty, decoded-word, damage}
+use Rattle.decoder.specs.Filling.{undecodable, or-empty}
+use Rattle.decoder.specs.Decoding.{decoded-word, damage}
 use Rattle.strike.specs.Strikes.{strike-message, strike-message-back}
 use Rattle.book.specs.Layout.{body-good, symbols-from, card}
 use Rattle.book.specs.Reading.{card-refusal, value-of-card, card-reading, cards-in, no-card, read-refusal, reading}

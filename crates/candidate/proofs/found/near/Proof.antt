@@ -7,7 +7,7 @@ use borrow.Author.Needs.{needs}
 use Rattle.rank.specs.Definitions.{rank, difference, apart}
 use Rattle.rank.specs.declared.Weight.{Weight}
 use Rattle.rank.specs.Weight.{weight-of, weight-rank}
-use Rattle.candidate.specs.Finding.{found-message, message-none, consistent-none, near-some, near-none}
+use Rattle.candidate.specs.Finding.{found-message, message-none, matches-none, near-some, near-none}
 use Rattle.candidate.proofs.found.near.Statement.{statement}
 use Rattle.candidate.proofs.found.near.Tie as tie
 
@@ -23,7 +23,7 @@ returns c =
     let far = weight-at (r .weight-of .ensures) (r .before .difference .ensures ∙ ap (λ (w : List ℕ). difference w (s .args .card)) (r .before .before .word-of .ensures)) in (
       message-none (s .args .k) _ (c .nothing .ensures)
           ∙ sym (near-none (s .args .k) (s .args .card) (take (2 * s .args .k) (s .args .message)) (rw far at (c .before .if1 .taken)) (s .pre .2)),
-      consistent-none (s .args .k) (s .args .card) _ (c .nothing .ensures),
+      matches-none (s .args .k) _ _ (c .nothing .ensures),
     )
 
 returns-2 : tie.Need-returns-2

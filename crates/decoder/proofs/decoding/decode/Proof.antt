@@ -1,21 +1,16 @@
--- `decoder::decoding::decode` meets its contract: the tests decide, then what was found, and then both lists are filled.
-use mathlib.Core.Path.{_≡_, sym, ap, _∙_}
+-- `decoder::decoding::decode` meets its contract: the tests decide, and then what was found.
+use mathlib.Core.Path.{_≡_, sym, _∙_}
 use mathlib.Core.Bool.{true}
-use mathlib.Core.List.{List}
-use mathlib.Core.Option.{some}
-use Prim.Native.Nat.{ℕ, _*_, _≤_}
+use Prim.Native.Nat.{_*_, _≤_}
 use native.Mathlib.Omega.{arith}
-use lib.ListN.{length, take}
-use lib.Seq.{take-all}
+use lib.ListN.{length}
 use denote.Ref.{now}
 use borrow.Author.Needs.{needs}
-use borrow.Author.Tests.{not-true, not-false}
-use Rattle.rank.specs.Definitions.{is-card, difference}
-use Rattle.rank.specs.Weight.{weight-of}
-use Rattle.coding.specs.Code.{word}
+use Rattle.rank.specs.Definitions.{is-card}
+use Rattle.coding.specs.Proved.{decoded}
 use Rattle.refusal.specs.Replies.{no-refusal}
-use Rattle.candidate.specs.Finding.{message-some, message-none, found-long}
-use Rattle.decoder.specs.Decoding.{decode-passed, decoded-refused, decoded-none, decoded-done}
+use Rattle.candidate.specs.Finding.{message-some, found-long}
+use Rattle.decoder.specs.Decoding.{decode-tests, decode-passed, decoded-refused, decoded-none, decoded-done}
 use Rattle.decoder.proofs.decoding.decode.Statement.{statement}
 use Rattle.decoder.proofs.decoding.decode.Tie as tie
 
@@ -23,20 +18,19 @@ returns : tie.Need-returns
 returns c =
     let t = c .before .before .before in
     let s = t .before .before .before .before in
-    decoded-refused (s .args .k) (now (s .args .received)) (now (s .args .word)) (now (s .args .message)) _ (t .decode-tests .ensures) _ (c .before .tested .given .1)
+    decoded-refused (s .args .k) (now (s .args .received)) (now (s .args .word)) (now (s .args .message)) _ _ (t .decode-tests .ensures) (c .before .tested .given .1)
 
--- what the tests that were passed say, and what was found
+-- what the tests that were passed say
+untouched : (d : tie.After-decode-list) → let s = d .before .before .before .before .before .before .before in
+    decode-tests (s .args .k) (now (s .args .received)) (length (now (s .args .word))) (length (now (s .args .message))) ≡ 0
+untouched d =
+    let e = d .before in
+    no-refusal _ _ (e .before .before .decode-tests .ensures) (e .enum-told .given .1)
+
 passed : (d : tie.After-decode-list) → let s = d .before .before .before .before .before .before .before in
     (1 ≤ s .args .k) × (s .args .k ≤ 5) × (length (now (s .args .received)) ≡ 6) × (is-card (now (s .args .received)) ≡ true) × (length (now (s .args .word)) ≡ 6)
     × (length (now (s .args .message)) ≡ 2 * s .args .k)
-passed d =
-    let e = d .before in
-    let t = e .before .before in
-    decode-passed _ _ _ _ (no-refusal _ _ (t .decode-tests .ensures) (e .enum-told .given .1))
-
-long : (d : tie.After-decode-list) → d .decode-list .result .found ≡ true → let s = d .before .before .before .before .before .before .before in
-    (length (d .decode-list .result .word) ≡ 6) × (2 * s .args .k ≤ length (d .decode-list .result .message))
-long d f = let (p, q, l, card, w, m) = passed d in found-long _ p q _ card _ (d .decode-list .ensures .0) (d .decode-list .ensures .1) f
+passed d = decode-passed _ _ _ _ (untouched d)
 
 decode-list-requires : tie.Need-decode-list-requires
 decode-list-requires c κs =
@@ -44,44 +38,29 @@ decode-list-requires c κs =
     let (p, q, l, card, w, m) = decode-passed _ _ _ _ (no-refusal _ _ (t .decode-tests .ensures) (c .enum-told .given .1)) in
     (p, q, l, card)
 
+fill-found-requires : tie.Need-fill-found-requires
+fill-found-requires c κs found =
+    let d = c .before .before .before in
+    let (p, q, l, card, w, m) = passed d in
+    let near = decoded _ p q _ card _ .0 (sym (d .decode-list .ensures .0) ∙ message-some _ (d .decode-list .result) found) in
+    let (lw, lm) = found-long _ _ _ (d .decode-list .ensures .1) (near .message) found in
+    (omega (arith, w, lw), omega (arith, m, lm))
+
 returns-2 : tie.Need-returns-2
 returns-2 c =
-    let d = c .before .before in
-    let e = d .before in
-    let t = e .before .before in
-    let s = t .before .before .before .before in
-    decoded-none (s .args .k) (now (s .args .received)) (now (s .args .word)) (now (s .args .message)) _ (t .decode-tests .ensures) (e .enum-told .given .1)
-    (sym (d .decode-list .ensures .0) ∙ message-none (s .args .k) (d .decode-list .result) (not-true _ (c .if1 .taken)))
-
-fill-requires : tie.Need-fill-requires
-fill-requires c κs =
-    let f = c .before .before .before .before in
-    let d = f .before .before in
-    omega (arith, passed d .4, long d (not-false _ (f .if1 .left)) .0)
-
-fill-requires-2 : tie.Need-fill-requires-2
-fill-requires-2 c κs =
-    let f = c .before .before .before .before .before .before .before .before .before in
-    let d = f .before .before in
-    omega (arith, passed d .5, long d (not-false _ (f .if1 .left)) .1)
+    let f = c .before .before .before .before .before .before .before in
+    let d = f .before .before .before .before in
+    let s = d .before .before .before .before .before .before .before in
+    decoded-none (s .args .k) (now (s .args .received)) (now (s .args .word)) (now (s .args .message)) (untouched d) _ (d .decode-list .ensures .0) (d .decode-list .ensures .1)
+    (passed d .5) _ _ _ (f .fill-found .ensures) _ (c .before .why .given .1)
 
 returns-3 : tie.Need-returns-3
 returns-3 c =
-    let f = c .before .before .before .before .before .before .before .before in
-    let o = f .before .before .before .before .before in
-    let found = not-false _ (o .if1 .left) in
-    let d = o .before .before in
-    let e = d .before in
-    let t = e .before .before in
-    let s = t .before .before .before .before in
-    let k = s .args .k in
-    let near = d .decode-list .result in
-    let message : _ ≡ take (2 * k) (near .message) = c .before .before .before .fill2 .ensures ∙ ap (λ (n : ℕ). take n (near .message)) (passed d .5) in
-    let word-is : _ ≡ near .word = f .fill .ensures ∙ ap (λ (n : ℕ). take n (near .word)) (passed d .4) ∙ take-all 6 (near .word) (omega (arith, long d found .0)) in
-    decoded-done k (now (s .args .received)) (now (s .args .word)) (now (s .args .message)) _ (t .decode-tests .ensures) (e .enum-told .given .1) _ _ _
-    (sym (d .decode-list .ensures .0) ∙ message-some k near found ∙ ap some (sym message))
-    (word-is ∙ d .decode-list .ensures .1 .word-is found ∙ ap (word k) (sym message))
-    (d .decode-list .ensures .1 .weight-is found ∙ ap (λ (v : List ℕ). weight-of (difference v (now (s .args .received)))) (sym word-is))
+    let f = c .before .before .before .before .before .before in
+    let d = f .before .before .before .before in
+    let s = d .before .before .before .before .before .before .before in
+    decoded-done (s .args .k) (now (s .args .received)) (now (s .args .word)) (now (s .args .message)) (untouched d) _ (d .decode-list .ensures .0) (d .decode-list .ensures .1)
+    (passed d .5) _ _ _ (f .fill-found .ensures) (c .enum-told2 .given .1)
 
 pub decode-spec : {M : Type 1} → statement M
 decode-spec =
@@ -92,11 +71,12 @@ decode-spec =
     returns
     (search needs)
     decode-list-requires
+    fill-found-requires
+    (search needs)
+    (search needs)
+    (search needs)
+    (search needs)
     returns-2
-    (λ c. search needs)
-    fill-requires
-    (λ c. search needs)
-    fill-requires-2
     (search needs)
     (search needs)
     returns-3)

@@ -7,13 +7,13 @@ use Rattle.decoder.proofs.decoding.decode_card.Statement.{statement}
 use Rattle.decoder.proofs.decoding.decode_card.Tie as tie
 
 word-of-requires : tie.Need-word-of-requires
-word-of-requires c κs = (lit≤ tt, lit≤ tt, rw (c .shown .ensures) (parts-message _ _))
+word-of-requires c κs = (lit≤ tt, lit≤ tt, rw (c .two-numbers .ensures) (parts-message _ _))
 
 undamaged-requires : tie.Need-undamaged-requires
 undamaged-requires c κs =
     let w = c .before .before in
     let m = w .before in
-    (lit≤ tt, lit≤ tt, m .before .before .pre .2, rw (m .shown .ensures) (parts-message _ _), sym (w .word-of .ensures) ∙ c .before .same .ensures (c .if2 .taken))
+    (lit≤ tt, lit≤ tt, m .before .before .pre .2, rw (m .two-numbers .ensures) (parts-message _ _), sym (w .word-of .ensures) ∙ c .before .same .ensures (c .if2 .taken))
 
 returns : tie.Need-returns
 returns c = rw (c .before .before .before .before .before .if1 .taken) (c .undamaged .ensures)
@@ -32,6 +32,7 @@ pub decode-card-spec : {M : Type 1} → statement M
 decode-card-spec =
     tie.close
     (tie.spec
+    (search needs)
     (search needs)
     (λ c κs. search needs)
     word-of-requires

@@ -4,7 +4,7 @@ use native.Mathlib.Omega.{arith}
 use Rattle.rank.specs.Definitions.{at}
 use Rattle.coding.specs.Spectrum.{spectrum}
 use Rattle.coding.specs.Clean.{unshaped-five}
-use Rattle.candidate.specs.Finding.{message-none, consistent-none}
+use Rattle.candidate.specs.Finding.{message-none, matches-none}
 use Rattle.candidate.specs.Places.{shaped-is}
 use Rattle.decoder.specs.Singles.{three-single}
 use borrow.Author.Needs.{needs}
@@ -17,7 +17,7 @@ returns c =
     let five = c .before .if1 .taken in
     let unshaped = sym (shaped-is (spectrum (s .args .card)) _ (s .pre .3) (s .args .k) (s .pre .1)) ∙ s .pre .4 in (
       message-none (s .args .k) _ (c .nothing .ensures) ∙ sym (rw five (unshaped-five (s .args .card) (s .pre .2) (rw five at unshaped))),
-      consistent-none (s .args .k) (s .args .card) _ (c .nothing .ensures),
+      matches-none (s .args .k) _ _ (c .nothing .ensures),
     )
 
 returns-2 : tie.Need-returns-2

@@ -1,6 +1,6 @@
 -- `decoder::single::attempt_four` meets its contract: the first coefficient refuses, or else all of them decide.
 use mathlib.Core.Path.{sym, _∙_}
-use Rattle.candidate.specs.Finding.{message-none, consistent-none}
+use Rattle.candidate.specs.Finding.{message-none, matches-none}
 use Rattle.decoder.specs.Singles.{four-some, four-none}
 use borrow.Author.Needs.{needs}
 use Rattle.decoder.proofs.single.attempt_four.Statement.{statement}
@@ -14,7 +14,7 @@ returns c =
       message-none 4 _ (c .nothing .ensures)
           ∙ sym (four-none (s .args .card) _ (s .pre .0) (s .args .d) _ (u .last-error .ensures) _ (h .before .first-coefficient .ensures)
           (λ z. c .before .if1 .taken (h .high .ensures ∙ z))),
-      consistent-none 4 (s .args .card) _ (c .nothing .ensures),
+      matches-none 4 _ _ (c .nothing .ensures),
     )
 
 returns-2 : tie.Need-returns-2

@@ -6,7 +6,7 @@ use native.Mathlib.Omega.{arith}
 use lib.Dec.{lit≤}
 use Rattle.coding.specs.Options.{first-of}
 use Rattle.coding.specs.DecodeSingle.{attempt-four, decode-four, four-is-decode}
-use Rattle.candidate.specs.Finding.{message-some, message-none, consistent-none, first-none, first-next, first-at, first-all}
+use Rattle.candidate.specs.Finding.{message-some, message-none, matches-none, first-none, first-next, first-at, first-all}
 use borrow.Author.Needs.{needs}
 use Rattle.decoder.proofs.single.decode_four.Statement.{statement}
 use Rattle.decoder.proofs.single.decode_four.Tie as tie
@@ -48,7 +48,7 @@ returns-2 c =
       message-none 4 _ (c .nothing .ensures)
           ∙ sym (first-all (attempt-four (s .args .card)) (l .loop .d) 27 (l .loop .inv .0) (c .before .loop-test .left) (l .loop .inv .1))
           ∙ four-is-decode (s .args .card) (s .pre .0),
-      consistent-none 4 (s .args .card) _ (c .nothing .ensures),
+      matches-none 4 _ _ (c .nothing .ensures),
     )
 
 pub decode-four-spec : {M : Type 1} → statement M

@@ -7,7 +7,7 @@ use Rattle.coding.specs.Code.{is-message}
 use Rattle.coding.specs.Spectrum.{spectrum}
 use Rattle.coding.specs.Decode.{if-near}
 use Rattle.coding.specs.DecodeTwo.{ninth, zeroth-error, proposed}
-use Rattle.candidate.specs.Finding.{message-none, consistent-none}
+use Rattle.candidate.specs.Finding.{message-none, matches-none}
 use Rattle.decoder.specs.Doubles.{ninth-by, inner-by, proposed-is, proposed-message, attempt-none, attempt-some}
 use borrow.Author.Needs.{needs}
 use Rattle.decoder.proofs.two.attempt.Statement.{statement}
@@ -45,7 +45,7 @@ returns c =
     let s = h .before .before .before .before .before in (
       message-none 2 _ (c .nothing .ensures)
           ∙ sym (attempt-none (s .args .card) (s .args .a) _ (last h) (λ z. c .before .if1 .taken (h .high .ensures ∙ z))),
-      consistent-none 2 (s .args .card) _ (c .nothing .ensures),
+      matches-none 2 _ _ (c .nothing .ensures),
     )
 
 near-requires : tie.Need-near-requires

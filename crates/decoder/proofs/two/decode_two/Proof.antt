@@ -7,7 +7,7 @@ use lib.Dec.{lit≤}
 use Rattle.rank.specs.Definitions.{at}
 use Rattle.coding.specs.Options.{first-of}
 use Rattle.coding.specs.DecodeTwo.{attempt}
-use Rattle.candidate.specs.Finding.{message-some, message-none, consistent-none, first-none, first-next}
+use Rattle.candidate.specs.Finding.{message-some, message-none, matches-none, first-none, first-next}
 use Rattle.decoder.specs.Doubles.{prepared-of, two-single, two-found, two-none}
 use borrow.Author.Needs.{needs}
 use Rattle.decoder.proofs.two.decode_two.Statement.{statement}
@@ -68,7 +68,7 @@ returns-3 c =
       message-none 2 _ (c .nothing .ensures)
           ∙ sym (two-none (s .args .card) (s .pre .0) _ (s .pre .1) _ (d .determinant .ensures) (p .before .if1 .left) (l .loop .a)
           (l .loop .inv .0) (c .before .loop-test .left) (l .loop .inv .1)),
-      consistent-none 2 (s .args .card) _ (c .nothing .ensures),
+      matches-none 2 _ _ (c .nothing .ensures),
     )
 
 pub decode-two-spec : {M : Type 1} → statement M
