@@ -36,7 +36,7 @@ extern "C" {
 /* The version of this interface. As long as MAJOR is 0, MINOR is raised by every change of what a call takes, answers or refuses and of every
    name or number below, PATCH by all other changes. The archive holds no version of its own. */
 #define LUCETCORAL_VERSION_MAJOR 0
-#define LUCETCORAL_VERSION_MINOR 4
+#define LUCETCORAL_VERSION_MINOR 5
 #define LUCETCORAL_VERSION_PATCH 0
 
 /* What a function returns (section 7). */
@@ -118,7 +118,8 @@ uint32_t lucetcoral_tune_at(const uint8_t *book, size_t book_len, uint32_t place
 uint32_t lucetcoral_read_card(const uint8_t *body, size_t body_len, uint32_t number, uint32_t *bell, uint32_t *force, uint32_t *delay,
                               uint32_t *damage);
 
-/* Length (8.10): the sum of the delays of all cards of a body that can be read, in ticks. 2. */
+/* Length (8.10): the sum of the delays of all cards of a body, in ticks. 2; then the refusal of the first card that Read refuses, 3 or 4: a body with
+   such a card has no length, and `ticks` stays as it was. */
 uint32_t lucetcoral_total_delay(const uint8_t *body, size_t body_len, uint32_t *ticks);
 
 /* Worn (8.11): the lowest number of a card of a body that Read refuses or gives a damage of 1 or more; 0 exactly if there is none. 2. */

@@ -66,10 +66,11 @@ pub fn read_card(body: &[u8], number: u32) -> Result<Strike, Refusal> {
     strike(card.ok_or(Refusal::NoSuchCard)?)
 }
 
-/// The delays of all readable cards together ("Length").
+/// The delays of all cards together; or the refusal of the first card that
+/// `read_card` refuses, if there is one ("Length").
 pub fn total_delay(body: &[u8]) -> Result<u32, Refusal> {
-    let strikes = cards(body)?.into_iter().map(|card| strike(&card));
-    Ok(strikes.flatten().map(|strike| strike.delay).sum())
+    let strikes: Result<Vec<Strike>, Refusal> = cards(body)?.iter().map(strike).collect();
+    Ok(strikes?.iter().map(|strike| strike.delay).sum())
 }
 
 /// The lowest number of a card that `read_card` refuses or finds damaged, if
@@ -105,8 +106,11 @@ pub fn listing(book: &[u8]) -> String {
         for (number, card) in (1..).zip(cards(body).expect("a tune's body")) {
             list_card(&mut text, number, &card);
         }
-        let ticks = total_delay(body).expect("a tune's body");
-        writeln!(text, "ticks {ticks}").unwrap();
+        match total_delay(body) {
+            Ok(ticks) => writeln!(text, "ticks {ticks}"),
+            Err(_) => writeln!(text, "ticks unknown"),
+        }
+        .unwrap();
     }
     text
 }

@@ -667,33 +667,37 @@ fn list_tune(number: usize, body: &[[u8; 12]], text: &mut Text) {
     text.push(b" ");
     text.number(body.len());
     text.push(b"\n");
-    let mut ticks = 0;
+    let mut ticks = Some(0);
     for (number, card) in (1..).zip(body) {
         text.number(number);
-        ticks += list_card(card, text);
+        let delay = list_card(card, text);
+        ticks = ticks.and_then(|ticks| Some(ticks + delay?));
     }
     text.push(b"ticks ");
-    text.number(ticks);
+    match ticks {
+        Some(ticks) => text.number(ticks),
+        None => text.push(b"unknown"),
+    }
     text.push(b"\n");
 }
 
-/// The line of a card after its number; gives back its delay.
-fn list_card(card: &[u8; 12], text: &mut Text) -> usize {
+/// The line of a card after its number; gives back its delay, if it has one.
+fn list_card(card: &[u8; 12], text: &mut Text) -> Option<usize> {
     let delay = match strike(card) {
         Ok(strike) => {
             for part in strike {
                 text.field(part);
             }
-            strike[2]
+            Some(strike[2] as usize)
         }
         Err(refusal) => {
             text.push(b" refused");
             text.field(refusal.number());
-            0
+            None
         }
     };
     text.push(b"\n");
-    delay as usize
+    delay
 }
 
 fn book_size(counts: &[u16]) -> Result<usize, Refusal> {
@@ -889,9 +893,12 @@ impl Library for Fast {
 
     #[inline(never)]
     fn total_delay(body: &[u8], ticks: &mut u32) -> u32 {
-        let delay = |card: &[u8; 12]| strike(card).map_or(0, |strike| strike[2]);
+        let delay = |card: &[u8; 12]| strike(card).map(|strike| strike[2]);
         status(|| {
-            *ticks = cards(body)?.iter().map(delay).sum();
+            *ticks = cards(body)?
+                .iter()
+                .map(delay)
+                .sum::<Result<u32, Refusal>>()?;
             Ok(())
         })
     }

@@ -51,6 +51,22 @@ pub fn damaged(random: &mut Random, card: &code::Card, damage: u32) -> code::Car
     symbols(square(card) + error(random, damage))
 }
 
+/// A strike card with the widest values, and damage.
+pub fn widest_card(random: &mut Random) -> code::Card {
+    let word = code::encode(2, &[26; 4], 6).expect("a message");
+    damaged(random, &word, 2)
+}
+
+/// The book with the longest listing: as many tunes as there can be, each of a
+/// refused card, with high numbers; and for the last one the widest card too.
+pub fn longest_listing() -> Vec<u8> {
+    let refused = [729; 6];
+    let numbers = 9_999 - 3_275..=9_999;
+    let mut tunes: Vec<(u16, Vec<u8>)> = numbers.map(|n| (n, body(&[refused]))).collect();
+    tunes[3_275].1 = body(&[refused, widest_card(&mut Random::new(6))]);
+    book(&tunes)
+}
+
 /// A random message's word with an error of the given rank.
 pub fn sent(random: &mut Random, k: u32, damage: u32) -> Sent {
     let message = message(random, k);

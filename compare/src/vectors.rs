@@ -292,10 +292,19 @@ fn body_calls(random: &mut Random) -> Vec<Call> {
         calls.extend([1 + place as u32, 1, 4].map(|number| read_card(&body, number)));
         calls.extend([total_delay(&body), damaged_card(&body)]);
     }
-    // A mended card and a refused one, either before the other.
-    let [whole, mended, refused] = [1, 2, 729].map(|first| [first, 3, 9, 27, 81, 243]);
-    for cards in [[whole, mended, refused], [whole, refused, mended]] {
-        calls.push(damaged_card(&samples::body(&cards)));
+    // A mended card and a refused one, either before the other; and two that
+    // are refused for another reason each.
+    let [whole, mended, outside] = [1, 2, 729].map(|first| [first, 3, 9, 27, 81, 243]);
+    let far = [1, 3, 9, 0, 0, 0];
+    for cards in [
+        [whole, mended, outside],
+        [whole, outside, mended],
+        [whole, far, outside],
+        [mended, outside, far],
+        [whole, mended, far],
+    ] {
+        let body = samples::body(&cards);
+        calls.extend([total_delay(&body), damaged_card(&body)]);
     }
     let body = samples::body(&words(random, 3));
     for len in [0, 1, 11, 12, 13, 24, 35] {

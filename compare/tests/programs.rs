@@ -4,7 +4,7 @@
 
 use compare::book::{listing, LONGEST_BOOK};
 use compare::call::Call;
-use compare::code::{self, Card};
+use compare::code::Card;
 use compare::random::Random;
 use compare::samples;
 use compare::text::{self, press, Pressed, LONGEST_TEXT};
@@ -198,14 +198,8 @@ fn mixed_book(counts: &[usize]) -> Vec<u8> {
 /// Tunes with so many cards each, all with the widest values and damage.
 fn widest_book(counts: &[usize]) -> Vec<u8> {
     let random = &mut Random::new(2);
-    let word = code::encode(2, &[26; 4], 6).expect("a message");
-    let card = samples::damaged(random, &word, 2);
+    let card = samples::widest_card(random);
     book(random, &[card], counts)
-}
-
-/// The book with the longest listing, which is more than a pipe holds.
-fn longest_listing() -> Vec<u8> {
-    widest_book(&[1; 3_276])
 }
 
 #[test]
@@ -271,13 +265,13 @@ fn large_books() {
         check_listing("large_books.book", &book);
     }
     check_listing("large_books.book", &widest_book(&[5_460]));
-    check_listing("large_books.book", &longest_listing());
+    check_listing("large_books.book", &samples::longest_listing());
 }
 
 /// A book that arrives in pieces, with pauses.
 #[test]
 fn slow_input() {
-    let (small, large) = (mixed_book(&[3, 2]), longest_listing());
+    let (small, large) = (mixed_book(&[3, 2]), samples::longest_listing());
     for (book, size) in [(&small, 1), (&small, 7), (&large, 4_000), (&large, 65_533)] {
         let pieces = book.chunks(size).map(<[u8]>::to_vec).collect();
         let input = pipe(pieces, milliseconds(2));
@@ -327,7 +321,7 @@ fn sh(script: &str) -> Command {
 
 #[test]
 fn outputs_that_fail() {
-    for book in [longest_listing(), vec![0, 1], vec![]] {
+    for book in [samples::longest_listing(), vec![0, 1], vec![]] {
         let path = file("outputs_that_fail.book", &book);
         let full = File::options().write(true).open("/dev/full");
         let full = full.expect("an output that is always full");
@@ -348,7 +342,7 @@ fn outputs_that_fail() {
 fn nonblocking_output() {
     let small = mixed_book(&[100]);
     assert_eq!(from_nonblocking_pipe(&small), listing(&small).len());
-    let large = longest_listing();
+    let large = samples::longest_listing();
     let all = listing(&large).len();
     // A pipe holds a page at least.
     assert!((4_096..=all).contains(&from_nonblocking_pipe(&large)));
@@ -390,7 +384,7 @@ fn from_nonblocking_pipe(book: &[u8]) -> usize {
 /// only a part when it goes on.
 #[test]
 fn interrupted_output() {
-    let book = longest_listing();
+    let book = samples::longest_listing();
     let (mut reader, writer) = io::pipe().expect("a pipe");
     let child = list_book()
         .stdin(piped(&book))
@@ -416,7 +410,7 @@ fn interrupted_output() {
 /// What goes into a socket of messages tells one write from another.
 #[test]
 fn one_write() {
-    for book in [mixed_book(&[3, 2]), longest_listing(), vec![0]] {
+    for book in [mixed_book(&[3, 2]), samples::longest_listing(), vec![0]] {
         let writes = writes(list_book().stdin(piped(&book)));
         let lengths: Vec<usize> = writes.iter().map(Vec::len).collect();
         assert_eq!(lengths, [listing(&book).len()]);

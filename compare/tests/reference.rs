@@ -121,12 +121,14 @@ fn listing_case() {
     ];
     let bytes = samples::book(&[(7, samples::body(&cards))]);
     assert_eq!(bytes[..10], [0, 1, 0, 7, 0, 0, 0, 10, 0, 4]);
-    let text = "tune 7 4\n1 1 0 0 0\n2 0 0 1 0\n3 1 0 0 1\n4 refused 3\nticks 1\n";
+    let text = "tune 7 4\n1 1 0 0 0\n2 0 0 1 0\n3 1 0 0 1\n4 refused 3\nticks unknown\n";
     assert_eq!(book::listing(&bytes), text);
 
     let body = &bytes[book::tune_body(&bytes, 7).unwrap()];
     assert_eq!(book::damaged_card(body), Ok(Some(3)));
     assert_eq!(book::damaged_card(&body[..24]), Ok(None));
+    assert_eq!(book::total_delay(body), Err(Refusal::Range));
+    assert_eq!(book::total_delay(&body[..36]), Ok(1));
     assert_eq!(book::read_card(body, 0), Err(Refusal::NoSuchCard));
     assert_eq!(book::read_card(body, 5), Err(Refusal::NoSuchCard));
     assert_eq!(book::tune_body(&bytes, 8), Err(Refusal::NoSuchTune));
@@ -144,17 +146,30 @@ fn listing_case() {
 }
 
 /// The longest listing fits: the most lines to a byte of the book are those
-/// of tunes with one card, and the widest values, numbers and damage.
+/// of tunes with one card, and these are longest if the card is refused.
 #[test]
 fn longest_listing() {
-    let word = encode(2, &[26; 4], 6).unwrap();
-    let body = samples::body(&[samples::damaged(&mut Random::new(6), &word, 2)]);
-    let numbers = 9_999 - 3_275..=9_999;
-    let tunes: Vec<(u16, Vec<u8>)> = numbers.map(|number| (number, body.clone())).collect();
-    let text = book::listing(&samples::book(&tunes));
-    assert!(text.ends_with("tune 9999 1\n1 26 26 728 2\nticks 728\n"));
-    assert_eq!(text.len(), 36 * 3_276);
+    let book = samples::longest_listing();
+    assert!(book.len() + 12 > book::LONGEST_BOOK);
+    let text = book::listing(&book);
+    assert!(text.contains("tune 9998 1\n1 refused 3\nticks unknown\n"));
+    assert!(text.ends_with("tune 9999 2\n1 refused 3\n2 26 26 728 2\nticks unknown\n"));
+    assert_eq!(text.len(), 38 * 3_276 + 14);
     assert!(text.len() <= book::LISTING_MAX);
+}
+
+/// The first refused card decides, whatever comes after it; and the body
+/// comes before its cards.
+#[test]
+fn hole_case() {
+    let (word, far, outside) = ([1, 3, 9, 27, 81, 243], [1, 3, 9, 0, 0, 0], [729; 6]);
+    let length = |cards: &[Card]| book::total_delay(&samples::body(cards));
+    assert_eq!(length(&[word, far, outside]), Err(Refusal::Undecodable));
+    assert_eq!(length(&[word, outside, far]), Err(Refusal::Range));
+    assert_eq!(length(&[word, word, far]), Err(Refusal::Undecodable));
+    assert_eq!(length(&[far, word]), Err(Refusal::Undecodable));
+    let body = samples::body(&[outside, word]);
+    assert_eq!(book::total_delay(&body[..23]), Err(Refusal::Length));
 }
 
 /// Values 2 and 3 are 27·m2 + m3, not the other way round.

@@ -7,7 +7,7 @@ use compare::code::{self, radius, Card};
 use compare::lent::{reading, Lent};
 use compare::library::Library;
 use compare::random::Random;
-use compare::samples::{self, junk};
+use compare::samples::{self, junk, Sent};
 
 pub mod dead;
 pub mod writing;
@@ -447,36 +447,59 @@ pub fn bodies<L: Library>() {
     }
 }
 
-/// Cards of a kind each: whole, damaged with rank 1 and with rank 2, too far
-/// from every word, and with a symbol out of range.
-fn kinds(random: &mut Random) -> [Card; 5] {
-    let [whole, one, two] = [0, 1, 2].map(|damage| samples::sent(random, 2, damage).received);
-    let (mut far, mut outside) = (whole, whole);
+/// Cards of a kind each, with their delay or the number of their refusal:
+/// whole, damaged with rank 1 and with rank 2, too far from every word, and
+/// with a symbol out of range.
+fn kinds(random: &mut Random) -> [(Card, Result<u32, u32>); 5] {
+    let [whole, one, two] = [0, 1, 2].map(|damage| samples::sent(random, 2, damage));
+    let (mut far, mut outside) = (whole.word, whole.word);
     while code::decode(2, &far, 6, 4).is_ok() {
-        far = samples::damaged(random, &whole, 3);
+        far = samples::damaged(random, &whole.word, 3);
     }
     outside[random.below(6) as usize] = 729;
-    [whole, one, two, far, outside]
+    let read = |sent: Sent| {
+        let delay = 27 * u32::from(sent.message[2]) + u32::from(sent.message[3]);
+        (sent.received, Ok(delay))
+    };
+    [
+        read(whole),
+        read(one),
+        read(two),
+        (far, Err(4)),
+        (outside, Err(3)),
+    ]
 }
 
-/// Bodies of four cards, of all kinds in every order: the first that is not
-/// whole is given, whatever its kind.
-pub fn first_damaged<L: Library>() {
+/// The number or the refusal is known: the reference answers with it, and so
+/// does the implementation.
+fn expect_known<L: Library>(call: Call, known: Result<u32, u32>) {
+    let known = Outcome {
+        status: known.err().unwrap_or(0),
+        numbers: known.into_iter().collect(),
+        lists: vec![],
+    };
+    assert_eq!(call.expected(), known, "{call:?}");
+    call.expect::<L>(&known);
+}
+
+/// Bodies of four cards, of all kinds in every order. The first card that is
+/// not whole is damaged, whatever its kind. The first that is refused leaves
+/// no length, whatever its place.
+pub fn kinds_in_order<L: Library>() {
     let mut random = Random::new(1_050);
     for order in 0..5_usize.pow(4) {
-        let kind = |place| order / 5_usize.pow(place) % 5;
         let kinds = kinds(&mut random);
-        let cards = [0, 1, 2, 3].map(|place| kinds[kind(place)]);
-        let first = (0..4).find(|place| kind(*place) > 0);
-        let known = Outcome {
-            status: 0,
-            numbers: vec![first.map_or(0, |place| place + 1)],
-            lists: vec![],
+        let places = [0, 1, 2, 3].map(|place| order / 5_usize.pow(place) % 5);
+        let body = samples::body(&places.map(|kind| kinds[kind].0));
+        let damaged = places.iter().position(|kind| *kind > 0);
+        let damaged = damaged.map_or(0, |place| place as u32 + 1);
+        expect_known::<L>(Call::DamagedCard { body: body.clone() }, Ok(damaged));
+        let refused = places.iter().find(|kind| **kind > 2);
+        let length = match refused {
+            Some(kind) => kinds[*kind].1,
+            None => Ok(places.iter().flat_map(|kind| kinds[*kind].1).sum()),
         };
-        let body = samples::body(&cards);
-        let call = Call::DamagedCard { body };
-        assert_eq!(call.expected(), known, "{call:?}");
-        call.expect::<L>(&known);
+        expect_known::<L>(Call::TotalDelay { body }, length);
     }
 }
 
@@ -515,10 +538,15 @@ pub fn large_bodies<L: Library>() {
         body_of(&mut random, &[slowest], longest),
         body_of(&mut random, &whole, longest + 1),
     ];
-    // Only the last, or the first, is damaged.
-    for place in [LONGEST_BODY - 1, 11] {
+    // Only the last, or the first, is damaged, or is refused.
+    for (place, flip) in [
+        (LONGEST_BODY - 1, 1),
+        (11, 1),
+        (LONGEST_BODY - 2, 128),
+        (10, 128),
+    ] {
         let mut body = body_of(&mut random, &whole, longest);
-        body[place] ^= 1;
+        body[place] ^= flip;
         bodies.push(body);
     }
     for extra in [1, 4, 5] {
@@ -560,12 +588,6 @@ fn check_listing<L: Library>(book: &[u8], before: &[u8]) {
     }
     let unchanged = rest == &before[listing.len()..];
     assert!(unchanged, "{call}\nchanges the text past the listing");
-}
-
-/// The card with the widest values, and damage.
-fn widest_card(random: &mut Random) -> Card {
-    let word = code::encode(2, &[26; 4], 6).expect("a message");
-    samples::damaged(random, &word, 2)
 }
 
 /// A book of tunes with these cards each, and the highest numbers.
@@ -615,8 +637,9 @@ pub fn large_listings<L: Library>() {
     let mut random = Random::new(1_400);
     let before = random.bytes(LISTING_MAX);
     let all = strike_cards(&mut random, 200);
-    let widest = widest_card(&mut random);
-    for cards in [&all, &whole_cards(&mut random, 200), &vec![widest]] {
+    let whole = whole_cards(&mut random, 200);
+    let (widest, refused) = (vec![samples::widest_card(&mut random)], vec![[729; 6]]);
+    for cards in [&all, &whole, &widest, &refused] {
         for number in [1, 9_999] {
             let body = body_of(&mut random, cards, 5_460);
             check_listing::<L>(&samples::book(&[(number, body)]), &before);
@@ -637,17 +660,17 @@ pub fn large_listings<L: Library>() {
 /// Texts of other lengths: shorter ones are refused, whatever the book.
 pub fn listing_lengths<L: Library>() {
     let mut random = Random::new(1_500);
-    let widest = widest_card(&mut random);
+    let widest = samples::widest_card(&mut random);
     let books = [
         vec![],
         vec![0, 0],
         vec![0, 0, 0],
         samples::book(&[(7, samples::body(&[widest]))]),
-        // The longest listing there is.
         high_numbers(3_276, &samples::body(&[widest])),
+        samples::longest_listing(),
         vec![0; LONGEST_BOOK + 1],
     ];
-    let short = [0, 1, 15, 16, 50, 65_536, 117_936, LISTING_MAX - 1];
+    let short = [0, 1, 15, 16, 50, 65_536, 124_502, LISTING_MAX - 1];
     let long = [0, 1, 2, 100, LISTING_MAX].map(|extra| LISTING_MAX + extra);
     for book in books {
         for len in short.into_iter().chain(long) {
@@ -796,8 +819,8 @@ macro_rules! suite {
         }
 
         #[test]
-        fn first_damaged() {
-            suite::first_damaged::<$library>();
+        fn kinds_in_order() {
+            suite::kinds_in_order::<$library>();
         }
 
         #[test]

@@ -1,12 +1,12 @@
 -- What Length and Worn say of a body (SPECIFICATION 8.10 and 8.11).
--- Main: body-refusal, total-delay, is-damaged, first-damaged, worn-reply.
+-- Main: body-refusal; add-delay, delays, total-delay; is-damaged, first-damaged, worn-reply.
 use mathlib.Core.Bool.{Bool, _||_, not, cond}
 use mathlib.Core.List.{List}
 use mathlib.Core.Option.{Option, none, some}
 use Prim.Native.Nat.{ℕ, zero, suc, _+_}
 use lib.Dec.{eqb}
 use Rattle.algebra.specs.Search.{first-from}
-use Rattle.refusal.specs.Replies.{number, Reply, replied, refused-with}
+use Rattle.refusal.specs.Replies.{number, Reply, replied, refused-with, reply-with}
 use Rattle.refusal.specs.declared.Refusal.the-variants.{Length}
 use Rattle.book.specs.declared.bodies.Worn.{Worn}
 use Rattle.book.specs.declared.bodies.Worn.the-variants.{Card, Nothing, Refused}
@@ -17,14 +17,18 @@ use Rattle.book.specs.Reading.{Card-value, cards-in, reading}
 unfoldable pub body-refusal : (body : List ℕ) → ℕ
 body-refusal bs = cond (body-good bs) 0 (number Length)
 
--- LENGTH. The delays of `left` cards from card n on, a refused card adding 0
-unfoldable pub delays-from : (left n : ℕ) → (body : List ℕ) → ℕ
-delays-from zero n bs = 0
-delays-from (suc k) n bs = reading bs n .value .strike .delay + delays-from k (suc n) bs
+-- LENGTH. One card more: a refusal that was there stays, else the card's own is said, or its delay is added to the sum
+unfoldable pub add-delay : (so-far : Reply ℕ) → (read : Reply Card-value) → Reply ℕ
+add-delay t r = cond (eqb (t .refusal) 0) (reply-with 0 (r .refusal) (t .value + r .value .strike .delay)) t
+
+-- of the bytes and the first k cards: the first refusal, or the sum of the delays
+unfoldable pub delays : (k : ℕ) → (body : List ℕ) → Reply ℕ
+delays zero bs = reply-with 0 (body-refusal bs) 0
+delays (suc k) bs = add-delay (delays k bs) (reading bs (suc k))
 
 -- of all cards
-unfoldable pub total-delay : (body : List ℕ) → ℕ
-total-delay bs = delays-from (cards-in bs) 1 bs
+unfoldable pub total-delay : (body : List ℕ) → Reply ℕ
+total-delay bs = delays (cards-in bs) bs
 
 -- WORN. A card that Read refuses, or mends with rank 1 or more
 unfoldable pub flawed : Reply Card-value → Bool

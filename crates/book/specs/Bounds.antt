@@ -1,13 +1,15 @@
--- How large the numbers are that Open, Read and Length say.
--- Main: Bounded, reading-bounded, total-bounded, open-bounded.
+-- How long a body is, and how large the numbers are that Read and Open say.
+-- Main: good-length; Bounded, reading-bounded, open-bounded.
 use mathlib.Core.Path.{_≡_, refl}
 use mathlib.Core.Bool.{Bool, true, false, not, cond}
 use mathlib.Core.List.{List}
 use mathlib.Core.Option.{Option, none, some}
-use Prim.Native.Nat.{ℕ, zero, suc, _*_, _≤_, _<_}
+use Prim.Native.Nat.{ℕ, _%_, _≤_, _<_}
 use native.Mathlib.Omega.{arith}
-use lib.Dec.{eqb}
-use Rattle.algebra.specs.Tests.{any-above}
+use lib.Dec.{leb, eqb}
+use lib.ListN.{length}
+use borrow.Author.Tests.{leb-true}
+use Rattle.algebra.specs.Tests.{any-above, both}
 use Rattle.refusal.specs.Replies.{number, Reply, reply-with}
 use Rattle.refusal.specs.declared.Refusal.the-variants.{Length, Range, BookSize, TuneNumber, Layout, NoSuchCard}
 use Rattle.rank.specs.Definitions.{at, difference}
@@ -19,9 +21,13 @@ use Rattle.decoder.specs.Decoding.{decoded-word, damage}
 use Rattle.strike.specs.Strikes.{in-range, strike-of, strike-good, range-parts}
 use Rattle.book.specs.Layout.{body-good, card}
 use Rattle.book.specs.Open.{size-bad, numbers-bad, bodies-bad, open-refusal}
-use Rattle.book.specs.Reading.{Card-value, no-value, card-refusal, value-of-card, card-reading, cards-in, no-card, read-refusal, reading}
-use Rattle.book.specs.Bodies.{delays-from, total-delay}
+use Rattle.book.specs.Reading.{Card-value, no-value, card-refusal, value-of-card, card-reading, no-card, read-refusal, reading}
 use Rattle.book.specs.CardReading.{decoded-message}
+
+-- A BODY
+pub good-length : (bs : List ℕ) → body-good bs ≡ true → length bs ≤ 65532
+unfolding body-good
+good-length bs e = leb-true (length bs) 65532 (both (leb (length bs) 65532) (eqb (length bs % 12) 0) e .0)
 
 -- WHAT READ SAYS: a refusal of two digits at most, or a strike within its ranges and a rank
 pub record Bounded (r : Reply Card-value) : Type 0 where
@@ -61,16 +67,6 @@ reading-bounded bs n = go (eqb (read-refusal bs n) 0)
         let (b, f, d) = range-parts _ (decoded-range c (decode 2 c) refl) in
         record { refusal = refusal-bounded bs n; bell = b; force = f; delay = d; damage = rank-at-most (difference (decoded-word 2 c) c) }
     go false = record { refusal = refusal-bounded bs n; bell = omega arith; force = omega arith; delay = omega arith; damage = omega arith }
-
--- LENGTH: at most 728 ticks a card
-delays-bounded : (k n : ℕ) (bs : List ℕ) → delays-from k n bs ≤ 728 * k
-unfolding delays-from
-delays-bounded zero n bs = omega arith
-delays-bounded (suc k) n bs = omega (arith, delays-bounded k (suc n) bs, reading-bounded bs n .delay)
-
-pub total-bounded : (bs : List ℕ) → total-delay bs ≤ 728 * cards-in bs
-unfolding total-delay
-total-bounded bs = delays-bounded (cards-in bs) 1 bs
 
 -- OPEN: a refusal of two digits at most
 pub open-bounded : (bs : List ℕ) → open-refusal bs < 100

@@ -1,6 +1,6 @@
 -- Cards where they lie, and what is read of them, in the terms of the code.
 -- Main: big-drop, twelve-bytes, card-part, card-range, card-lost, card-strike, found-none, found-near, found-strike, card-passes, read-bad,
--- read-past, read-there, card-there, there-card, decoded-message.
+-- read-past, read-there, refused-reading, card-there, there-card, decoded-message.
 use mathlib.Core.Path.{_≡_, sym, _∙_, ap}
 use mathlib.Core.Bool.{Bool, true, false, not}
 use mathlib.Core.List.{List, [], _∷_}
@@ -94,6 +94,11 @@ read-past bs n e p = rw (e, p)
 pub read-there : (bs : List ℕ) (n : ℕ) → body-good bs ≡ true → no-card bs n ≡ false → card-reading (card-refusal (card bs n)) (card bs n) ≡ reading bs n
 unfolding reading read-refusal
 read-there bs n e p = rw (e, p)
+
+-- a refusal has no value
+pub refused-reading : (bs : List ℕ) (n : ℕ) → (reading bs n .refusal ≡ 0 → ⊥) → reading bs n ≡ refused-with no-value (reading bs n .refusal)
+unfolding reading card-reading reply-with
+refused-reading bs n h = rw (ne-eqb (read-refusal bs n) 0 h)
 
 pub card-there : (bs : List ℕ) (n : ℕ) → no-card bs n ≡ false → (1 ≤ n) × (n ≤ cards-in bs)
 unfolding no-card

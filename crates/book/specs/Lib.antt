@@ -14,6 +14,6 @@ pub mod Pulled
 -- What is read of a body
 pub mod CardReading
 pub mod Bounds
-pub mod CardLoops
+pub mod Delays
 pub mod Damaged
 pub mod ReadBack

@@ -8,8 +8,8 @@ mod pull;
 mod reading;
 
 pub use bodies::Worn;
+pub use bodies::add_delay;
 pub use bodies::damaged_card;
-pub use bodies::delay;
 pub use bodies::total_delay;
 pub use contents::LONGEST;
 pub use contents::open;

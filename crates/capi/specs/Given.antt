@@ -1,5 +1,6 @@
 -- What is given follows from the operations' answers.
--- Main: unless-none, unless-same, given, refused-given, value-given; reads-refused, reads-strike; lists-refused, lists-tune; pulled-short.
+-- Main: unless-none, unless-same, reply-given, given, refused-given, value-given; reads-refused, reads-strike; lists-refused, lists-tune;
+-- pulled-short.
 use mathlib.Core.Path.{_≡_, refl, sym, ap, _∙_}
 use mathlib.Core.Bool.{Bool, true, false, cond}
 use mathlib.Core.List.{List}
@@ -20,7 +21,7 @@ use Rattle.book.specs.Pull.{pulled}
 use Rattle.book.specs.Pulled.{pulled-good}
 use Rattle.book.specs.Entries.{tune-reply, tune-at}
 use Rattle.book.specs.Reading.{Card-value, read-reply, reading}
-use Rattle.book.specs.CardLoops.{good-length}
+use Rattle.book.specs.Bounds.{good-length}
 use Rattle.capi.specs.Calls.{Gives, Lists, Reads}
 
 -- A NUMBER AFTERWARDS: the answer where there is no refusal, else what it was
@@ -32,19 +33,25 @@ pub unless-same : (n v old : ℕ) → (n ≡ 0 → ⊥) → old ≡ unless n v o
 unfolding unless
 unless-same n v old e = rw (ne-eqb n 0 e)
 
--- from an answer that replies n and v, of which one number is given
+-- from an answer that replies s, or n and v, of which one number is given
 module _ {A : Type 0} (f : A → ℕ) (empty : A) where
-  given-value : (n old : ℕ) (v : A) (b : Bool) → cond b (f (cond b v empty)) old ≡ cond b (f v) old
-  given-value n old v true = refl
-  given-value n old v false = refl
+  pub reply-given : (t s : Reply A) (old r now : ℕ) → t ≡ s → r ≡ t .refusal → now ≡ unless (t .refusal) (f (t .value)) old
+      → Gives (s .refusal) (f (s .value)) old r now
+  reply-given t s old r now e a g = record {
+    answers = a ∙ ap (λ (x : Reply A). x .refusal) e;
+    number-is = g ∙ ap (λ (x : Reply A). unless (x .refusal) (f (x .value)) old) e;
+  }
+
+  given-value : (old : ℕ) (v : A) (b : Bool) → cond b (f (cond b v empty)) old ≡ cond b (f v) old
+  given-value old v true = refl
+  given-value old v false = refl
 
   pub given : (t : Reply A) (n : ℕ) (v : A) (old r now : ℕ) → t ≡ reply-with empty n v → r ≡ t .refusal → now ≡ unless (t .refusal) (f (t .value)) old
       → Gives n (f v) old r now
   unfolding reply-with unless
-  given t n v old r now e a g = record {
-    answers = a ∙ ap (λ (x : Reply A). x .refusal) e;
-    number-is = g ∙ ap (λ (x : Reply A). unless (x .refusal) (f (x .value)) old) e ∙ given-value n old v (eqb n 0);
-  }
+  given t n v old r now e a g =
+      let s = reply-given t (reply-with empty n v) old r now e a g in
+      record { answers = s .answers; number-is = s .number-is ∙ given-value old v (eqb n 0) }
 
   -- in code: a refusal leaves the number as it was, a value is given
   pub refused-given : (t : Reply A) (x : Refusal) (m old : ℕ) → t ≡ refused-with empty (number x) → m ≡ number x

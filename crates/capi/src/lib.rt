@@ -203,10 +203,10 @@ pub extern "C" fn lucetcoral_read_card(
     }
 }
 
-// The sum of the delays of all readable cards (document 01: Length).
+// The sum of the delays of all cards, or the refusal of the first card that is refused (document 01: Length).
 #[no_mangle]
 pub extern "C" fn lucetcoral_total_delay(body: &[u8], ticks: &mut u32) -> u32
-    ensures { λ r. ⌜ Gives (body-refusal (now (body .entry))) (total-delay (now (body .entry))) (now (ticks .entry)) r (now (ticks .exit)) ⌝ }
+    ensures { λ r. ⌜ Gives (total-delay (now (body .entry)) .refusal) (total-delay (now (body .entry)) .value) (now (ticks .entry)) r (now (ticks .exit)) ⌝ }
 {
     give(book::total_delay(body), ticks)
 }

@@ -1,19 +1,20 @@
 -- What is demanded of Open, Pull, Read, Length, Worn, Write and Size, proved: each from the operation's contract.
 -- Main: open-says, pull-says, find-says, body-says, read-is, read-says, length-says, worn-says, write-says, size-says.
-use mathlib.Core.Path.{_≡_, refl, sym, ap, _∙_}
+use mathlib.Core.Path.{_≡_, refl, sym, ap, _∙_, subst}
 use mathlib.Core.Logic.{_⊎_, inl, inr}
 use mathlib.Core.Bool.{Bool, true, false, _||_, not, true≢false}
 use mathlib.Core.List.{List}
 use mathlib.Core.Option.{Option, none, some}
-use Prim.Native.Nat.{ℕ, zero, suc, _≤_}
+use Prim.Native.Nat.{ℕ, zero, suc, _+_, _≤_}
 use native.Mathlib.Omega.{arith}
 use lib.Dec.{eqb}
 use lib.ListN.{length}
-use borrow.Author.Tests.{eqb-true, not-false}
+use borrow.Author.Tests.{eqb-true, eqb-false, not-true, not-false}
 use Rattle.algebra.specs.Tests.{any-above, neither}
+use Rattle.algebra.specs.Search.{first-from, None-in, search-first, search-none}
 use Rattle.refusal.specs.declared.Outcome.{Outcome}
 use Rattle.refusal.specs.declared.Answer.{Answer}
-use Rattle.refusal.specs.Replies.{outcome, reply, reply-with, unless}
+use Rattle.refusal.specs.Replies.{Reply, outcome, replied, refused-with, reply, reply-with, unless}
 use Rattle.coding.specs.Decode.{decode}
 use Rattle.coding.specs.Proved.{decode-none}
 use Rattle.book.specs.declared.reading.Reading.{Reading}
@@ -21,19 +22,21 @@ use Rattle.book.specs.declared.bodies.Worn.{Worn}
 use Rattle.book.specs.Layout.{tunes, part-of, body-good, symbols-from, card}
 use Rattle.book.specs.Open.{size-bad, numbers-bad, bodies-bad, open-refusal}
 use Rattle.book.specs.Pull.{entry-of, missing, part-at, pull-refusal, pulled}
-use Rattle.book.specs.Reading.{read-reply, cards-in, no-card, reading}
-use Rattle.book.specs.Bodies.{body-refusal, delays-from, total-delay, flawed, is-damaged, first-damaged, worn-reply}
+use Rattle.book.specs.Reading.{Card-value, no-value, read-reply, cards-in, no-card, reading}
+use Rattle.book.specs.Bodies.{body-refusal, total-delay, flawed, is-damaged, first-damaged, worn-reply}
 use Rattle.book.specs.Accepted.{one-entry}
 use Rattle.book.specs.Pulled.{pull-accepted, pull-refused, pulled-accepted, pulled-refused, entry-found, entry-there, empty-refused}
-use Rattle.book.specs.CardReading.{card-range, card-lost, card-strike, card-passes, read-bad, read-past, read-there}
+use Rattle.book.specs.CardReading.{card-range, card-lost, card-strike, card-passes, read-bad, read-past, read-there, refused-reading}
+use Rattle.book.specs.Delays.{total-bad, is-refused, delay-sum, not-refused, delays-whole, delays-hole}
 use Rattle.book.specs.Damaged.{damaged-first, damaged-none}
 use Rattle.writer.specs.Writing.{book-length, size-refusal, lengths-good, write-refusal, Written}
 use Rattle.writer.specs.Shown.{written-shows}
-use Rattle.demands.specs.Settled.{read-settled}
+use Rattle.demands.specs.Settled.{said-once}
 use Rattle.demands.specs.CardDemands.{the-near}
 use Rattle.demands.specs.Demands.{opening-refusal, Open-says, Pulled, Missing, Pull-as, Pull-says}
 use Rattle.demands.specs.Demands.{reading-refusal, Read-strike, Read-card, Read-as, Read-says}
-use Rattle.demands.specs.Demands.{Delays, at-end, one-card, Length-as, Length-says, Damaged, Worn-card, Worn-as, Worn-says}
+use Rattle.demands.specs.Demands.{Delays, no-cards, one-more, Hole, Length-sum, Length-hole, Length-as, Length-says}
+use Rattle.demands.specs.Demands.{Damaged, Worn-card, Worn-as, Worn-says}
 use Rattle.demands.specs.Demands.{writing-refusal, Write-says, Size-says}
 
 -- OPEN
@@ -102,18 +105,53 @@ pub read-says : (bs : List ℕ) (n : ℕ) (r : Reading) → read-reply r ≡ rea
 read-says bs n r e = rw e (read-is bs n)
 
 -- LENGTH
-delays : (bs : List ℕ) (k n : ℕ) → Delays bs k n (delays-from k n bs)
-unfolding delays-from
-delays bs zero n = at-end n
-delays bs (suc k) n = one-card k n (delays-from k (suc n) bs) (reading bs n) (read-is bs n) (delays bs k (suc n))
+module _ (bs : List ℕ) where
+  -- a reading by its refusal
+  was-read : (n : ℕ) → reading bs n .refusal ≡ 0 → Read-says bs n (replied (reading bs n .value))
+  was-read n e = subst (Read-says bs n) (λ i. record { refusal = e i; value = reading bs n .value }) (read-is bs n)
 
-pub length-says : (bs : List ℕ) (r : Answer) → reply r ≡ reply-with 0 (body-refusal bs) (total-delay bs) → Length-says bs (reply r)
-unfolding Length-says Length-as body-refusal reply-with total-delay
+  was-refused : (n : ℕ) → (reading bs n .refusal ≡ 0 → ⊥) → Read-says bs n (refused-with no-value (reading bs n .refusal))
+  was-refused n h = subst (Read-says bs n) (refused-reading bs n h) (read-is bs n)
+
+  all-delays : (k : ℕ) → None-in (is-refused bs) 1 (k + 1) → Delays bs k (delay-sum bs k)
+  unfolding delay-sum
+  all-delays zero f = no-cards
+  all-delays (suc k) f =
+      let last = was-read (suc k) (not-refused bs (suc k) (f (suc k) (omega arith) (omega arith))) in
+      one-more k (delay-sum bs k) (reading bs (suc k) .value) (all-delays k (λ i l h. f i l (omega arith))) last
+
+  not-hole : (n x : ℕ) → is-refused bs n ≡ false → Hole bs n x → ⊥
+  unfolding Hole
+  not-hole n x e h =
+      let same = said-once bs n (refused-with no-value x) (reading bs n) (h .3) (read-is bs n) in
+      let z : x ≡ reading bs n .refusal = ap (λ (t : Reply Card-value). t .refusal) same in
+      omega (arith, not-refused bs n e, h .2)
+
+  length-is : body-good bs ≡ true → (o : Option ℕ) → first-from (cards-in bs) 1 (is-refused bs) ≡ o → Length-as true bs (total-delay bs)
+  unfolding Length-as Length-sum Length-hole Hole total-delay
+  length-is g none e =
+      let f = search-none (is-refused bs) (cards-in bs) 1 (cards-in bs + 1) (omega arith) .0 e in
+      inl (delay-sum bs (cards-in bs), all-delays (cards-in bs) f, delays-whole bs g (cards-in bs) f)
+  length-is g (some n) e =
+      let f = search-first (is-refused bs) (cards-in bs) 1 (cards-in bs + 1) (omega arith) n .0 e in
+      let r = eqb-false (reading bs n .refusal) 0 (not-true _ (f .passes)) in
+      inr (
+        n,
+        (
+          reading bs n .refusal,
+          (f .low, omega (arith, f .high), omega arith, was-refused n r),
+          (λ m y h o. not-hole m y (f .before m (o .0) h) o),
+          delays-hole bs g (cards-in bs) n f,
+        ),
+      )
+
+pub length-says : (bs : List ℕ) (r : Answer) → reply r ≡ total-delay bs → Length-says bs (reply r)
+unfolding Length-says Length-as
 length-says bs r e = rw e (go (body-good bs) refl)
   where
-    go : (g : Bool) → body-good bs ≡ g → Length-as g bs (reply-with 0 (body-refusal bs) (total-delay bs))
-    go true h = rw h (refl, delays bs (cards-in bs) 1)
-    go false h = rw h
+    go : (g : Bool) → body-good bs ≡ g → Length-as g bs (total-delay bs)
+    go true h = length-is bs h (first-from (cards-in bs) 1 (is-refused bs)) refl
+    go false h = sym (total-bad bs h)
 
 -- WORN
 flawed-some : (a b : ℕ) → (not (eqb a 0) || not (eqb b 0)) ≡ true → (1 ≤ a) ⊎ (1 ≤ b)
@@ -130,9 +168,9 @@ flawed-none a b e h =
 
 module _ (bs : List ℕ) where
   not-damaged : (n : ℕ) → is-damaged bs n ≡ false → Damaged bs n → ⊥
-  unfolding Damaged Read-says is-damaged flawed
+  unfolding Damaged is-damaged flawed
   not-damaged n e (low, high, (r, h, bad)) =
-      let same = read-settled (card bs n) r (reading bs n) (reading-refusal bs n) h (read-is bs n) in
+      let same = said-once bs n r (reading bs n) h (read-is bs n) in
       flawed-none (reading bs n .refusal) (reading bs n .value .damage .rank) e (rw same at bad)
 
   named : (o : Option ℕ) → first-damaged bs ≡ o → Worn-card bs o

@@ -186,13 +186,25 @@ Read-as (suc n) c r = r ≡ refused-with no-value (suc n)
 unfoldable pub Read-says : (body : List ℕ) → (n : ℕ) → Reply Card-value → Type 0
 Read-says bs n r = Read-as (reading-refusal bs n) (card bs n) r
 
--- LENGTH: 2 for the body; else the sum of the delays that Read says of all cards, 0 of a refused one
-pub data Delays (bs : List ℕ) : (left n : ℕ) → (total : ℕ) → Type 0 where
-  at-end : (n : ℕ) → Delays bs 0 n 0
-  one-card : (k n d : ℕ) (r : Reply Card-value) → Read-says bs n r → Delays bs k (suc n) d → Delays bs (suc k) n (r .value .strike .delay + d)
+-- LENGTH (document 02, P5): 2 for the body; else the sum of the delays, if Read refuses no card, or the refusal of the first card that it refuses.
+-- The first k cards are all read, and this is the sum of their delays
+pub data Delays (bs : List ℕ) : (k : ℕ) → (sum : ℕ) → Type 0 where
+  no-cards : Delays bs 0 0
+  one-more : (k d : ℕ) (v : Card-value) → Delays bs k d → Read-says bs (suc k) (replied v) → Delays bs (suc k) (d + v .strike .delay)
+
+-- Read refuses card n with x
+unfoldable pub Hole : (body : List ℕ) → (n x : ℕ) → Type 0
+Hole bs n x = (1 ≤ n) × (n ≤ cards-in bs) × (1 ≤ x) × Read-says bs n (refused-with no-value x)
+
+-- the sum of all; card n is the first that is refused
+unfoldable pub Length-sum : (body : List ℕ) → Reply ℕ → Type 0
+Length-sum bs r = (d : ℕ) × Delays bs (cards-in bs) d × (r ≡ replied d)
+
+unfoldable pub Length-hole : (body : List ℕ) → Reply ℕ → Type 0
+Length-hole bs r = (n : ℕ) × ((x : ℕ) × Hole bs n x × ((m y : ℕ) → m < n → Hole bs m y → ⊥) × (r ≡ refused-with 0 x))
 
 unfoldable pub Length-as : (good : Bool) → (body : List ℕ) → Reply ℕ → Type 0
-Length-as true bs r = (r .refusal ≡ 0) × Delays bs (cards-in bs) 1 (r .value)
+Length-as true bs r = Length-sum bs r ⊎ Length-hole bs r
 Length-as false bs r = r ≡ refused-with 0 2
 
 unfoldable pub Length-says : (body : List ℕ) → Reply ℕ → Type 0

@@ -1,19 +1,21 @@
 -- What is said leaves nothing free: two answers of which a statement holds are the same, and so are the lists left behind. Press, Weigh, Open, Write
--- and Size are equations already; each other statement is its `-as` at a number x, that of Worn at a test, and that of Length in its sum.
--- Main: test-settled, mend-settled, mend-dead-settled, pull-settled, read-settled, delays-settled, worn-settled.
+-- and Size are equations already; each other statement is its `-as` at a number x, those of Length and Worn at a test.
+-- Main: test-settled, mend-settled, mend-dead-settled, pull-settled, read-settled, said-once, length-settled, worn-settled.
 use mathlib.Core.Path.{_≡_, refl, sym, ap, _∙_}
 use mathlib.Core.Logic.{inl, inr}
 use mathlib.Core.Bool.{Bool, true, false}
 use mathlib.Core.List.{List}
 use mathlib.Core.Option.{Option, none, some}
-use Prim.Native.Nat.{ℕ, zero, suc, _<_}
+use Prim.Native.Nat.{ℕ, zero, suc, _≤_, _<_}
+use native.Mathlib.Decide.{ℕ-discrete}
 use native.Mathlib.Omega.{arith}
-use Rattle.refusal.specs.Replies.{Reply}
+use Rattle.refusal.specs.Replies.{Reply, replied, refused-with}
 use Rattle.rank.specs.declared.Weight.{Weight}
 use Rattle.book.specs.Layout.{card}
-use Rattle.book.specs.Reading.{Card-value}
+use Rattle.book.specs.Reading.{Card-value, no-value}
 use Rattle.demands.specs.Demands.{Test-as, Mend-as, Mended, Hopeless, Mend-dead-as, Mended-dead, Hopeless-dead, Pull-as, Pulled, Missing}
-use Rattle.demands.specs.Demands.{reading-refusal, Read-as, Read-card, Read-strike, Read-says, Delays, at-end, one-card, Worn-card, Worn-as}
+use Rattle.demands.specs.Demands.{reading-refusal, Read-as, Read-card, Read-strike, Read-says}
+use Rattle.demands.specs.Demands.{Delays, no-cards, one-more, Hole, Length-sum, Length-hole, Length-as, Worn-card, Worn-as}
 
 module _ (k : ℕ) (c t : List ℕ) (r s : ℕ) (y z : List ℕ) where
   pub test-settled : (x : ℕ) → Test-as x k c r t y → Test-as x k c s t z → (r ≡ s) × (y ≡ z)
@@ -57,15 +59,46 @@ module _ (c : List ℕ) (r s : Reply Card-value) where
   read-settled zero (inr a) (inr b) = cc
   read-settled (suc x) a b = cc
 
-pub delays-settled : (bs : List ℕ) {left n d e : ℕ} → Delays bs left n d → Delays bs left n e → d ≡ e
-unfolding Read-says
-delays-settled bs (at-end _) (at-end _) = refl
-delays-settled bs (one-card k n d r h a) (one-card _ _ e s l b) =
-    let same = read-settled (card bs n) r s (reading-refusal bs n) h l in
-    let rest = delays-settled bs a b in
-    cc
-
 module _ (bs : List ℕ) where
+  -- what is said of a card
+  pub said-once : (n : ℕ) (r s : Reply Card-value) → Read-says bs n r → Read-says bs n s → r ≡ s
+  unfolding Read-says
+  said-once n r s = read-settled (card bs n) r s (reading-refusal bs n)
+
+  delays-settled : {k d e : ℕ} → Delays bs k d → Delays bs k e → d ≡ e
+  delays-settled no-cards no-cards = refl
+  delays-settled (one-more k d v a h) (one-more _ e w b l) =
+      let same = ap (λ (t : Reply Card-value). t .value .strike .delay) (said-once (suc k) (replied v) (replied w) h l) in
+      let rest = delays-settled a b in
+      cc
+
+  -- where delays add up no card is refused
+  no-hole : {k d : ℕ} → Delays bs k d → (n x : ℕ) → n ≤ k → Hole bs n x → ⊥
+  unfolding Hole
+  no-hole no-cards n x l h = omega (arith, h .0)
+  no-hole (one-more k d v a r) n x l h =
+      elim (ℕ-discrete n (suc k)) [
+        | yes e ↦
+            let s = said-once (suc k) (replied v) (refused-with no-value x) r (rw e at (h .3)) in
+            let z : 0 ≡ x = ap (λ (t : Reply Card-value). t .refusal) s in
+            omega (arith, h .2)
+        | no f ↦ no-hole a n x (omega arith) h
+      ]
+
+  pub length-settled : (r s : Reply ℕ) (good : Bool) → Length-as good bs r → Length-as good bs s → r ≡ s
+  unfolding Length-as Length-sum Length-hole Hole
+  length-settled r s true (inl (d, a, p)) (inl (e, b, q)) = let same = delays-settled a b in cc
+  length-settled r s true (inl (d, a, p)) (inr (n, (x, h, _, _))) = absurd (no-hole a n x (h .1) h)
+  length-settled r s true (inr (n, (x, h, _, _))) (inl (d, a, p)) = absurd (no-hole a n x (h .1) h)
+  length-settled r s true (inr (m, (x, h, f, p))) (inr (n, (y, l, g, q))) =
+      let u : m < n → ⊥ = λ o. g m x o h in
+      let v : n < m → ⊥ = λ o. f n y o l in
+      let same : m ≡ n = omega arith in
+      let said = said-once n (refused-with no-value x) (refused-with no-value y) (rw same at (h .3)) (l .3) in
+      let z : x ≡ y = ap (λ (t : Reply Card-value). t .refusal) said in
+      cc
+  length-settled r s false a b = cc
+
   card-settled : (o p : Option ℕ) → Worn-card bs o → Worn-card bs p → o ≡ p
   unfolding Worn-card
   card-settled none none a b = refl

@@ -92,7 +92,7 @@ pub fn read_card(body: &[u8], number: u32) -> Reading
     book::read_card(body, number)
 }
 
-// The answer is the sum of the delays of all readable cards (document 01: Length).
+// The answer is the sum of the delays of all cards, or the refusal of the first card that is refused (document 01: Length).
 pub fn total_delay(body: &[u8]) -> Answer
     ensures { λ r. ⌜ Length-says (now (body .entry)) (reply r) ⌝ }
 {

@@ -10,7 +10,7 @@ use Rattle.algebra.specs.Linear.{computing}
 use Rattle.algebra.specs.Lists.{table}
 use Rattle.algebra.specs.Field.{power, minus}
 use Rattle.algebra.specs.Tests.{any-above}
-use Rattle.refusal.specs.Replies.{number, refused-with}
+use Rattle.refusal.specs.Replies.{number, refused-with, reply-with}
 use Rattle.refusal.specs.declared.Refusal.the-variants.{Range}
 use Rattle.rank.specs.Definitions.{at, is-card, difference, columns, subtract, pivot, cleared, rank-with, rank-from, rank, apart}
 use Rattle.coding.specs.Code.{inner, inner-sum, value, word-from, word, is-message, radius}
@@ -19,7 +19,7 @@ use Rattle.book.specs.Open.{size-bad, rising, numbers-bad, bodies-good, bodies-
 use Rattle.rank.specs.Weight.{weight-of, no-weight}
 use Rattle.strike.specs.Strikes.{strike-of}
 use Rattle.book.specs.Reading.{no-value, reading}
-use Rattle.book.specs.Bodies.{delays-from, total-delay}
+use Rattle.book.specs.Bodies.{body-refusal, add-delay, delays, total-delay}
 use Rattle.book.specs.CardReading.{struck, card-range, read-there, there-card}
 use Rattle.book.specs.ReadBack.{near-read, word-read}
 use Rattle.text.specs.Text.{ascii, decimal-from, decimal, spaced, word-line}
@@ -39,7 +39,7 @@ abbrev pub example : List ℕ
 example = 0 ∷ 1 ∷ 0 ∷ 7 ∷ 0 ∷ 0 ∷ 0 ∷ 10 ∷ 0 ∷ 4 ∷ body
 
 abbrev pub example-text : List ℕ
-example-text = ascii "tune 7 4\n1 1 0 0 0\n2 0 0 1 0\n3 1 0 0 1\n4 refused 3\nticks 1\n"
+example-text = ascii "tune 7 4\n1 1 0 0 0\n2 0 0 1 0\n3 1 0 0 1\n4 refused 3\nticks unknown\n"
 
 first-message : List ℕ
 first-message = 1 ∷ 0 ∷ 0 ∷ 0 ∷ []
@@ -104,23 +104,20 @@ lines : (b : List ℕ) → card-lines 4 b ≡ card-line 1 (reading b 1) ++ card-
 unfolding card-lines
 lines b = refl
 
-delays : (b : List ℕ) → let d : ℕ → ℕ = λ n. reading b n .value .strike .delay in delays-from 4 1 b ≡ d 1 + (d 2 + (d 3 + (d 4 + 0)))
-unfolding delays-from
-delays b = refl
-
-total : total-delay body ≡ 1
-unfolding total-delay strike-of at first-message second-message
-total = delays body ∙ rw (read-first, read-second, read-third, read-fourth)
+-- the fourth is the first that is refused
+unknown : total-delay body ≡ refused-with 0 (number Range)
+unfolding total-delay delays body-refusal body-good add-delay reply-with
+unknown = rw (read-first, read-second, read-third, read-fourth)
 
 card-texts : card-line 1 (struck first-message no-weight) ++ card-line 2 (struck second-message no-weight)
-    ++ card-line 3 (struck first-message (record { rank = 1 })) ++ card-line 4 (refused-with no-value (number Range)) ++ ticks-line 1
+    ++ card-line 3 (struck first-message (record { rank = 1 })) ++ card-line 4 (refused-with no-value (number Range)) ++ ticks-line (refused-with 0 (number Range))
     ≡ drop 9 example-text
 unfolding card-line strike-line refused-line ticks-line word-line spaced decimal decimal-from strike-of at first-message second-message
 card-texts = refl
 
 body-listed : body-text body ≡ drop 9 example-text
 unfolding body-text
-body-listed = ap (λ (l : List ℕ). l ++ ticks-line (total-delay body)) (lines body) ∙ rw (read-first, read-second, read-third, read-fourth, total) card-texts
+body-listed = ap (λ (l : List ℕ). l ++ ticks-line (total-delay body)) (lines body) ∙ rw (read-first, read-second, read-third, read-fourth, unknown) card-texts
 
 accepted : open-refusal example ≡ 0
 unfolding open-refusal size-bad numbers-bad rising tune-numbers table bodies-bad bodies-good big big-four

@@ -1,7 +1,8 @@
 -- The lines of cards and tunes so far, in the terms of a loop that counts them; and the kinds of a line.
--- Main: line-strike, line-refused; CardsSo, cards-start, cards-room, cards-next, cards-end; TunesSo, tunes-start, tunes-room, tunes-next,
--- tunes-end; listing-accepted, listing-refused, opened-refused, answer-within, answer-listed, listing-read.
+-- Main: line-strike, line-refused, ticks-value, ticks-refused; CardsSo, cards-start, cards-room, cards-next, cards-end; TunesSo, tunes-start,
+-- tunes-room, tunes-next, tunes-end; listing-accepted, listing-refused, opened-refused, answer-within, answer-listed, listing-read.
 use mathlib.Core.Path.{_≡_, refl, sym, _∙_, ap, subst}
+use mathlib.Core.Bool.{true}
 use mathlib.Core.List.{List, _++_}
 use Prim.Native.Nat.{ℕ, suc, _+_, _-_, _≤_, _<_}
 use native.Mathlib.Decide.{decLt}
@@ -10,7 +11,7 @@ use native.Mathlib.Omega.{arith}
 use lib.ListN.{length, take, length-take}
 use lib.Seq.{take-all}
 use borrow.Author.Tests.{lt-ltb, eq-eqb, ne-eqb}
-use Rattle.refusal.specs.Replies.{Reply, number, number-not-zero, reply, reply-with, answer-refused, answer-value, unless}
+use Rattle.refusal.specs.Replies.{Reply, number, number-not-zero, replied, reply, reply-with, answer-refused, answer-value, unless}
 use Rattle.refusal.specs.declared.Refusal.{Refusal}
 use Rattle.refusal.specs.declared.Refusal.the-variants.{BookSize}
 use Rattle.refusal.specs.declared.Answer.{Answer}
@@ -19,15 +20,15 @@ use Rattle.rank.specs.declared.Weight.{Weight}
 use Rattle.strike.specs.declared.Strike.{Strike}
 use Rattle.book.specs.declared.reading.Reading.{Reading}
 use Rattle.book.specs.declared.reading.Reading.the-variants as readings
-use Rattle.book.specs.Layout.{longest-book, tunes}
+use Rattle.book.specs.Layout.{longest-book, tunes, body-good}
 use Rattle.book.specs.Open.{size-bad, open-refusal}
 use Rattle.book.specs.Reading.{Card-value, read-reply, cards-in, reading}
-use Rattle.book.specs.Bodies.{total-delay}
+use Rattle.book.specs.Bodies.{add-delay, total-delay}
 use Rattle.book.specs.Accepted.{Accepted}
-use Rattle.book.specs.CardLoops.{Adding, adding-start, adding-next, adding-end}
-use Rattle.text.specs.Text.{book-refused, written, room-refusal}
+use Rattle.book.specs.Delays.{Adding, adding-start, adding-next, adding-end}
+use Rattle.text.specs.Text.{ascii, word-line, book-refused, written, room-refusal}
 use Rattle.text.specs.Writing.{written-front, Wrote, wrote-none, wrote-then, pieces-room}
-use Rattle.listing.specs.Listing.{strike-line, refused-line, card-line, card-lines, tune-text, tune-texts, listing, longest}
+use Rattle.listing.specs.Listing.{strike-line, refused-line, card-line, card-lines, ticks-line, tune-text, tune-texts, listing, longest}
 use Rattle.listing.specs.Sizes.{listing-within}
 
 -- THE TWO KINDS OF A CARD LINE
@@ -40,8 +41,17 @@ pub line-refused : (n : ℕ) (r : Reading) (why : Refusal) (m : ℕ) → r ≡ r
 unfolding card-line
 line-refused n r why m e f = rw (e, f, number-not-zero why)
 
+-- the same of the last line
+pub ticks-value : (a : Answer) (v : ℕ) → a ≡ answers.Value v → ticks-line (reply a) ≡ word-line (ascii "ticks") v
+unfolding ticks-line
+ticks-value a v e = rw e
+
+pub ticks-refused : (a : Answer) (x : Refusal) → a ≡ answers.Refused x → ticks-line (reply a) ≡ ascii "ticks unknown\n"
+unfolding ticks-line
+ticks-refused a x e = rw (e, number-not-zero x)
+
 -- CARDS: those before card n were written, and their delays added
-pub record CardsSo (body old : List ℕ) (a : ℕ) (new : List ℕ) (end ticks n : ℕ) : Type 0 where
+pub record CardsSo (body old : List ℕ) (a : ℕ) (new : List ℕ) (end : ℕ) (ticks : Reply ℕ) (n : ℕ) : Type 0 where
   pub adding : Adding body ticks n
   pub wrote : Wrote old a (card-lines (n - 1) body) new end
 
@@ -49,11 +59,11 @@ cards-step : (body : List ℕ) (k : ℕ) → card-lines (suc k) body ≡ card-li
 unfolding card-lines
 cards-step body k = refl
 
-pub cards-start : (body old : List ℕ) (a : ℕ) → a ≤ length old → CardsSo body old a old a 0 1
+pub cards-start : (body old : List ℕ) (a : ℕ) → body-good body ≡ true → a ≤ length old → CardsSo body old a old a (replied 0) 1
 unfolding card-lines
-cards-start body old a h = record { adding = adding-start body; wrote = wrote-none old a h }
+cards-start body old a g h = record { adding = adding-start body g; wrote = wrote-none old a h }
 
-module _ {body old : List ℕ} {a : ℕ} {new : List ℕ} {end ticks n : ℕ} (g : CardsSo body old a new end ticks n) where
+module _ {body old : List ℕ} {a : ℕ} {new : List ℕ} {end : ℕ} {ticks : Reply ℕ} {n : ℕ} (g : CardsSo body old a new end ticks n) where
   pub cards-room : n ≤ cards-in body → a + length (card-lines (cards-in body) body) ≤ length old → (s : Reply Card-value) → s ≡ reading body n
       → end + length (card-line n s) ≤ length new
   cards-room h r s e =
@@ -63,14 +73,14 @@ module _ {body old : List ℕ} {a : ℕ} {new : List ℕ} {end ticks n : ℕ} (g
       let w = pieces-room (λ k. card-lines k body) line (cards-step body) (n - 1) (cards-in body) (g .wrote) (omega arith) r in
       rw e (subst (λ (m : ℕ). end + length (card-line m (reading body m)) ≤ length new) f w)
 
-  pub cards-next : n ≤ cards-in body → (s : Reply Card-value) → s ≡ reading body n → (d : ℕ) → d ≡ reading body n .value .strike .delay
-      → {next : List ℕ} {after : ℕ} → Wrote new end (card-line n s) next after → CardsSo body old a next after (ticks + d) (n + 1)
-  cards-next h s e d f w =
+  pub cards-next : n ≤ cards-in body → (s : Reply Card-value) → s ≡ reading body n → (t : Reply ℕ) → t ≡ add-delay ticks s
+      → {next : List ℕ} {after : ℕ} → Wrote new end (card-line n s) next after → CardsSo body old a next after t (n + 1)
+  cards-next h s e t f w =
       let l = g .adding .low in
       let p : n + 1 - 1 ≡ suc (n - 1) = omega arith in
       let q : suc (n - 1) ≡ n = omega arith in
       record {
-        adding = adding-next body ticks n (g .adding) d h f;
+        adding = adding-next body ticks n (g .adding) s t h e f;
         wrote = rw (p, cards-step body (n - 1), q, ← e) (wrote-then (g .wrote) w);
       }
 

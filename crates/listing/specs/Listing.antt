@@ -30,12 +30,13 @@ unfoldable pub card-lines : (k : ℕ) → (body : List ℕ) → List ℕ
 card-lines zero bs = []
 card-lines (suc k) bs = card-lines k bs ++ card-line (suc k) (reading bs (suc k))
 
--- A TUNE. First line: tune number, cards. Last: Length
+-- A TUNE. First line: tune number, cards
 unfoldable pub tune-line : (tune cards : ℕ) → List ℕ
 tune-line t c = ascii "tune" ++ spaced t ++ spaced c ++ line-end
 
-unfoldable pub ticks-line : (ticks : ℕ) → List ℕ
-ticks-line t = word-line (ascii "ticks") t
+-- last: Length, or that it is unknown
+unfoldable pub ticks-line : Reply ℕ → List ℕ
+ticks-line t = cond (eqb (t .refusal) 0) (word-line (ascii "ticks") (t .value)) (ascii "ticks unknown" ++ line-end)
 
 -- the lines of a body: of its cards, and the last
 unfoldable pub body-text : (body : List ℕ) → List ℕ

@@ -1,11 +1,13 @@
 // The lines of a listing, each written from a place on. Each function answers the next place.
 ghost use Prim.Native.Nat.{_+_, _≤_};
 ghost use lib.ListN.{length};
+ghost use Rattle.refusal.specs.Replies.{reply};
 ghost use Rattle.book.specs.Reading.{read-reply};
 ghost use Rattle.listing.specs.Listing.{strike-line, refused-line, card-line, tune-line, ticks-line};
 ghost use Rattle.text.specs.Writing.{Wrote};
 use book::Reading;
 use rank::Weight;
+use refusal::Answer;
 use strike::Strike;
 use text::write_byte;
 use text::write_decimal;
@@ -58,10 +60,13 @@ pub(crate) fn write_tune_line(text: &mut [u8], at: usize, number: u32, cards: u3
     write_byte(text, cards_end, b'\n')
 }
 
-// The last line of a tune: the sum of its delays.
-pub(crate) fn write_ticks(text: &mut [u8], at: usize, ticks: u32) -> usize
-    requires { ⌜ at + length (ticks-line ticks) ≤ length (now text) ⌝ }
-    ensures { λ r. ⌜ Wrote (now (text .entry)) at (ticks-line ticks) (now (text .exit)) r ⌝ }
+// The last line of a tune: the sum of its delays, which is unknown if a card was refused.
+pub(crate) fn write_ticks(text: &mut [u8], at: usize, ticks: Answer) -> usize
+    requires { ⌜ at + length (ticks-line (reply ticks)) ≤ length (now text) ⌝ }
+    ensures { λ r. ⌜ Wrote (now (text .entry)) at (ticks-line (reply ticks)) (now (text .exit)) r ⌝ }
 {
-    text::write_word_line(text, at, b"ticks", ticks)
+    match ticks {
+        Answer::Value(sum) => text::write_word_line(text, at, b"ticks", sum),
+        Answer::Refused(_) => write_word(text, at, b"ticks unknown\n"),
+    }
 }

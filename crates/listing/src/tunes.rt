@@ -20,27 +20,27 @@ use refusal::Refusal;
 // No listing has more bytes than this.
 pub const LONGEST: usize = 131072;
 
-// Where the card lines of a body end, and the sum of the delays.
+// Where the card lines of a body end, and the sum of the delays or the first refusal.
 struct CardLines {
     end: usize,
-    ticks: u32,
+    ticks: Answer,
 }
 
-// The lines of all cards of a body. Each card is decoded once, for its line and for the sum of the delays.
+// The lines of all cards of a body. Each card is decoded once, for its line and for the length of the body.
 fn write_cards(body: &[u8], text: &mut [u8], at: usize) -> CardLines
     requires { ⌜ body-good (now body) ≡ true ⌝ }
     requires { ⌜ at + length (card-lines (cards-in (now body)) (now body)) ≤ length (now text) ⌝ }
     ensures { λ r. ⌜ Wrote (now (text .entry)) at (card-lines (cards-in (now (body .entry))) (now (body .entry))) (now (text .exit)) (r .end) ⌝ }
-    ensures { λ r. ⌜ r .ticks ≡ total-delay (now (body .entry)) ⌝ }
+    ensures { λ r. ⌜ reply (r .ticks) ≡ total-delay (now (body .entry)) ⌝ }
 {
     let count = (body.len() / 12) as u32;
     let mut end = at;
-    let mut ticks = 0;
+    let mut ticks = Answer::Value(0);
     let mut n = 1;
     while n <= count {
         let read = book::read_card(body, n);
         end = write_card(text, end, n, read);
-        ticks += book::delay(read);
+        ticks = book::add_delay(ticks, read);
         n += 1;
     }
     CardLines {
@@ -49,14 +49,15 @@ fn write_cards(body: &[u8], text: &mut [u8], at: usize) -> CardLines
     }
 }
 
-// The card lines of a body, and the sum of its delays.
+// The card lines of a body, and its last line.
 fn write_body(body: &[u8], text: &mut [u8], at: usize) -> usize
     requires { ⌜ body-good (now body) ≡ true ⌝ }
     requires { ⌜ at + length (body-text (now body)) ≤ length (now text) ⌝ }
     ensures { λ r. ⌜ Wrote (now (text .entry)) at (body-text (now (body .entry))) (now (text .exit)) r ⌝ }
 {
     let lines = write_cards(body, text, at);
-    write_ticks(text, lines.end, lines.ticks)
+    let ticks = lines.ticks;
+    write_ticks(text, lines.end, ticks)
 }
 
 // The tune of entry `e` of an accepted book.

@@ -7,7 +7,7 @@ use borrow.Author.Needs.{needs}
 use Rattle.algebra.specs.Search.{None-in, none-start, none-next}
 use Rattle.refusal.specs.Replies.{replied}
 use Rattle.book.specs.Bodies.{flawed, is-damaged}
-use Rattle.book.specs.CardLoops.{good-length}
+use Rattle.book.specs.Bounds.{good-length}
 use Rattle.book.specs.Damaged.{damaged-first, damaged-none}
 use Rattle.book.proofs.bodies.find_damaged.Statement.{statement}
 use Rattle.book.proofs.bodies.find_damaged.Tie as tie

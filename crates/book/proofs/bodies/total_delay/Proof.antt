@@ -1,29 +1,17 @@
 -- `book::bodies::total_delay` meets its contract: the test, then the sum.
-use mathlib.Core.Path.{_≡_, sym, _∙_}
-use mathlib.Core.Bool.{true}
-use denote.Ref.{now}
+use mathlib.Core.Path.{sym, _∙_}
 use borrow.Author.Needs.{needs}
 use borrow.Author.Tests.{not-true, not-false}
-use Rattle.refusal.specs.Replies.{reply-with}
-use Rattle.book.specs.Layout.{body-good}
-use Rattle.book.specs.Bodies.{body-refusal}
+use Rattle.book.specs.Delays.{total-bad}
 use Rattle.book.proofs.bodies.total_delay.Statement.{statement}
 use Rattle.book.proofs.bodies.total_delay.Tie as tie
 
 returns : tie.Need-returns
-unfolding reply-with body-refusal
-returns c = rw (sym (c .before .body-good .ensures) ∙ not-true _ (c .if1 .taken))
+returns c = total-bad _ (sym (c .before .body-good .ensures) ∙ not-true _ (c .if1 .taken))
 
-good : (c : tie.Else1) → body-good (now (c .before .before .before .args .body)) ≡ true
-good c = sym (c .before .body-good .ensures) ∙ not-false _ (c .if1 .left)
-
-delays-requires : tie.Need-delays-requires
-delays-requires c κs = good c
-
-returns-2 : tie.Need-returns-2
-unfolding reply-with body-refusal
-returns-2 c = rw (good (c .before), c .delays .ensures)
+add-delays-requires : tie.Need-add-delays-requires
+add-delays-requires c κs = sym (c .before .body-good .ensures) ∙ not-false _ (c .if1 .left)
 
 pub total-delay-spec : {M : Type 1} → statement M
 total-delay-spec =
-    tie.close (tie.spec (λ c κs. search needs) returns delays-requires returns-2)
+    tie.close (tie.spec (λ c κs. search needs) returns add-delays-requires (λ c. search needs))

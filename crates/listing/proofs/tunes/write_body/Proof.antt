@@ -1,4 +1,4 @@
--- `listing::tunes::write_body` meets its contract: the card lines, then the sum of the delays.
+-- `listing::tunes::write_body` meets its contract: the card lines, then the last line.
 use native.Mathlib.Omega.{arith}
 use denote.Ref.{now}
 use borrow.Author.Needs.{needs}
