@@ -1,5 +1,5 @@
-/* Lucetcoral's C interface: cards, tune books, their listing and their writing, in numbers and lists only. docs/SPECIFICATION.md says what each
-   operation does; the sections cited below are its sections.
+/* Lucetcoral's C interface: cards, levels on the cable, tune books, their listing and their writing, in numbers and lists only.
+   docs/SPECIFICATION.md says what each operation does; the sections cited below are its sections.
 
    ANSWERS. Each function returns LUCETCORAL_DONE, 0, or the number of a refusal. If it is done, what it answers is in the lists and numbers that
    it was lent to fill. A refusal changes nothing that is lent. Tests run in the order in which the numbers stand at each function, and the first
@@ -36,7 +36,7 @@ extern "C" {
 /* The version of this interface. As long as MAJOR is 0, MINOR is raised by every change of what a call takes, answers or refuses and of every
    name or number below, PATCH by all other changes. The archive holds no version of its own. */
 #define LUCETCORAL_VERSION_MAJOR 0
-#define LUCETCORAL_VERSION_MINOR 5
+#define LUCETCORAL_VERSION_MINOR 6
 #define LUCETCORAL_VERSION_PATCH 0
 
 /* What a function returns (section 7). */
@@ -44,7 +44,8 @@ enum lucetcoral_refusal {
     LUCETCORAL_DONE = 0,          /* no refusal */
     LUCETCORAL_DIMENSION = 1,     /* k is not 1 to 5 */
     LUCETCORAL_LENGTH = 2,        /* a list has the wrong length */
-    LUCETCORAL_RANGE = 3,         /* a symbol is above 728, a value of a message above 26, or a mask above 63 */
+    LUCETCORAL_RANGE = 3,         /* a symbol is above 728, a value of a message above 26, a mask above 63, or a signed number
+                                     not -364 to 364 */
     LUCETCORAL_UNDECODABLE = 4,   /* no word of the code is near the card */
     LUCETCORAL_BOOK_SIZE = 5,     /* a book has more than 65,536 bytes, or too few for its contents */
     LUCETCORAL_TUNE_NUMBER = 6,   /* a tune number is not 1 to 9,999, or not above the one before it */
@@ -66,6 +67,11 @@ enum lucetcoral_refusal {
 #define LUCETCORAL_RADIUS(k) ((6 - (k)) / 2)       /* the greatest rank of damage that is undone, for k from 1 to 5 */
 #define LUCETCORAL_MASK_MAX 63                     /* of a mask of dead rows or columns: bit i, worth 2^i, is line i */
 #define LUCETCORAL_DEAD_LINES_MAX(k) (6 - (k))     /* dead rows and columns together, for k from 1 to 5 */
+
+/* Levels on the cable (section 3.6). */
+#define LUCETCORAL_LEVELS_MAX 364        /* of a signed number of a symbol; the least is -364 */
+#define LUCETCORAL_CARD_SAMPLES 36       /* samples of a card: symbol by symbol, the lowest digit first */
+#define LUCETCORAL_SAMPLE_THRESHOLD 8192 /* a sample of this or above is plus, digit 1; of its negative or below minus, digit 2 */
 
 /* Tune books (section 5). */
 #define LUCETCORAL_BOOK_MAX 65536 /* bytes of a book */
@@ -103,6 +109,17 @@ uint32_t lucetcoral_decode(uint32_t k, const uint16_t *received, size_t received
    word, and with both masks 0 it is Decode. Row i is the digit worth 3^i of every symbol, column j is symbol j. 1, 2, 3, 11, 4. */
 uint32_t lucetcoral_decode_dead(uint32_t k, const uint16_t *received, size_t received_len, uint32_t dead_rows, uint32_t dead_columns, uint16_t *word,
                                 size_t word_len, uint16_t *message, size_t message_len, uint32_t *rank);
+
+/* Levels (8.20): fills the 6 signed numbers, -364 to 364, of a card of 6 symbols. Each is the sum of 3^i times the level of digit i, where digit 1 is
+   plus one and digit 2 minus one. 2, 3. */
+uint32_t lucetcoral_levels(const uint16_t *card, size_t card_len, int16_t *levels, size_t levels_len);
+
+/* Symbols (8.21): fills the card of 6 symbols that has these 6 signed numbers, and undoes Levels. 2, 3. */
+uint32_t lucetcoral_symbols(const int16_t *levels, size_t levels_len, uint16_t *card, size_t card_len);
+
+/* Receive (8.22): fills the card of 6 symbols to whose digits' levels 36 samples fall: sample 6j + i is that of digit i of symbol j. Every number is a
+   sample. 2. */
+uint32_t lucetcoral_receive(const int16_t *samples, size_t samples_len, uint16_t *card, size_t card_len);
 
 /* Open (8.5): the number of tunes of a book. 5, 6, 7. */
 uint32_t lucetcoral_open(const uint8_t *book, size_t book_len, uint32_t *tunes);

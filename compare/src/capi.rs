@@ -91,6 +91,24 @@ mod raw {
         ) -> u32;
         pub fn lucetcoral_book_size(counts: *const u16, counts_len: usize, size: *mut usize)
             -> u32;
+        pub fn lucetcoral_levels(
+            card: *const u16,
+            card_len: usize,
+            levels: *mut i16,
+            levels_len: usize,
+        ) -> u32;
+        pub fn lucetcoral_symbols(
+            levels: *const i16,
+            levels_len: usize,
+            card: *mut u16,
+            card_len: usize,
+        ) -> u32;
+        pub fn lucetcoral_receive(
+            samples: *const i16,
+            samples_len: usize,
+            card: *mut u16,
+            card_len: usize,
+        ) -> u32;
     }
 }
 
@@ -211,5 +229,23 @@ impl Library for Proved {
 
     fn book_size(counts: &[u16], size: &mut usize) -> u32 {
         unsafe { raw::lucetcoral_book_size(counts.as_ptr(), counts.len(), size) }
+    }
+
+    fn levels(card: &[u16], levels: &mut [i16]) -> u32 {
+        let (card, card_len) = (card.as_ptr(), card.len());
+        let (levels, levels_len) = (levels.as_mut_ptr(), levels.len());
+        unsafe { raw::lucetcoral_levels(card, card_len, levels, levels_len) }
+    }
+
+    fn symbols(levels: &[i16], card: &mut [u16]) -> u32 {
+        let (levels, levels_len) = (levels.as_ptr(), levels.len());
+        let (card, card_len) = (card.as_mut_ptr(), card.len());
+        unsafe { raw::lucetcoral_symbols(levels, levels_len, card, card_len) }
+    }
+
+    fn receive(samples: &[i16], card: &mut [u16]) -> u32 {
+        let (samples, samples_len) = (samples.as_ptr(), samples.len());
+        let (card, card_len) = (card.as_mut_ptr(), card.len());
+        unsafe { raw::lucetcoral_receive(samples, samples_len, card, card_len) }
     }
 }

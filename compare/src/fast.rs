@@ -1,11 +1,13 @@
 //! A fast implementation in plain Rust, for the comparison of speed: products
 //! by logarithms, and decoding by a search over information subspaces. With
-//! dead lines it decodes by algebra, as the proved library does (`dead`).
+//! dead lines it decodes by algebra, as the proved library does (`dead`). The
+//! levels of the cable are in tables (`cable`).
 
 use crate::book::LISTING_MAX;
 use crate::library::Library;
 use crate::refusal::Refusal;
 
+mod cable;
 mod dead;
 
 /// An element packed into two bytes: bit i of the low byte for a coefficient
@@ -946,5 +948,20 @@ impl Library for Fast {
             *size = book_size(counts)?;
             Ok(())
         })
+    }
+
+    #[inline(never)]
+    fn levels(card: &[u16], levels: &mut [i16]) -> u32 {
+        status(|| cable::levels(card, levels))
+    }
+
+    #[inline(never)]
+    fn symbols(levels: &[i16], card: &mut [u16]) -> u32 {
+        status(|| cable::symbols(levels, card))
+    }
+
+    #[inline(never)]
+    fn receive(samples: &[i16], card: &mut [u16]) -> u32 {
+        status(|| cable::receive(samples, card))
     }
 }

@@ -9,11 +9,12 @@ pub const UNTOUCHED: u32 = 3_141_592_653;
 /// What lies before and after each lent list.
 const GUARD: [u8; 16] = [77; 16];
 
-/// What lists hold: symbols, message values or bytes.
+/// What lists hold: symbols, message values, bytes, or signed numbers.
 pub trait Value: Copy + PartialEq + From<u8> {}
 
 impl Value for u16 {}
 impl Value for u8 {}
+impl Value for i16 {}
 
 /// A lent list, between guards.
 pub struct Lent<T>(Vec<T>);

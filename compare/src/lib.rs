@@ -3,6 +3,7 @@
 //! two. `fast` is a third, for the comparison of speed.
 
 pub mod book;
+pub mod cable;
 pub mod call;
 #[cfg(feature = "proved")]
 pub mod capi;

@@ -62,4 +62,13 @@ pub trait Library {
 
     /// How long a book with these counts of cards is.
     fn book_size(counts: &[u16], size: &mut usize) -> u32;
+
+    /// The signed numbers of a card's symbols.
+    fn levels(card: &[u16], levels: &mut [i16]) -> u32;
+
+    /// The card whose symbols have these signed numbers.
+    fn symbols(levels: &[i16], card: &mut [u16]) -> u32;
+
+    /// The card of 36 samples of the cable.
+    fn receive(samples: &[i16], card: &mut [u16]) -> u32;
 }

@@ -6,7 +6,8 @@ pub enum Refusal {
     Parameter = 1,
     /// A list has the wrong length.
     Length = 2,
-    /// A symbol, a message value or a mask of lines is out of range.
+    /// A symbol, a number of one, a message value or a mask of lines is out of
+    /// range.
     Range = 3,
     /// No word of the code lies within the radius ("hopeless").
     Undecodable = 4,

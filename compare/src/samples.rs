@@ -1,6 +1,6 @@
 //! Inputs for the tests and the programs: messages, errors of a given rank,
-//! cards with damage and with dead lines, books, and tunes as lists and as
-//! text.
+//! cards with damage and with dead lines, samples of the cable, books, and
+//! tunes as lists and as text.
 
 use crate::code;
 use crate::digits::Digits;
@@ -169,9 +169,38 @@ pub fn small_field_damage(random: &mut Random, k: u32) -> code::Card {
     symbols(square(&word) + square(&error))
 }
 
+/// The least and the greatest sample that stands for each digit.
+const SAMPLES: [[i16; 2]; 3] = [[-8_191, 8_191], [8_192, 32_767], [-32_768, -8_192]];
+
+/// Any sample that stands for a digit, often the least or the greatest.
+fn sample(random: &mut Random, digit: u64) -> i16 {
+    let [least, greatest] = SAMPLES[digit as usize];
+    match random.below(8) {
+        0 => least,
+        1 => greatest,
+        _ => {
+            let count = 1 + i32::from(greatest) - i32::from(least);
+            least + random.below(count as u64) as i16
+        }
+    }
+}
+
+/// A card on the cable: a sample for each digit.
+pub fn on_cable(random: &mut Random, card: &code::Card) -> Vec<i16> {
+    let square = square(card);
+    (0..36)
+        .map(|place| sample(random, square.digit(place)))
+        .collect()
+}
+
 /// What a list to be filled may hold before.
 pub fn junk(random: &mut Random, count: usize) -> Vec<u16> {
     random.numbers(count, u16::MAX)
+}
+
+/// What a list of signed numbers may hold.
+pub fn signed_junk(random: &mut Random, count: usize) -> Vec<i16> {
+    (0..count).map(|_| random.bits() as i16).collect()
 }
 
 /// So many strikes, in their ranges.

@@ -1,10 +1,11 @@
 //! Some hundreds of calls, for a program that reads them as lines (see
 //! `call`): the paper's cases, edges, and random inputs. The lists are short.
 
+use crate::cable;
 use crate::call::Call;
 use crate::code::Card;
 use crate::random::Random;
-use crate::samples::{self, junk, Masks};
+use crate::samples::{self, junk, signed_junk, Masks};
 use crate::writer::{book_size, Tunes};
 
 /// The seed of the calls that are stored with the program.
@@ -12,6 +13,9 @@ pub const STORED: u64 = 1;
 
 /// What lists to be filled hold before.
 const FILL: u16 = 99;
+
+/// What lists of signed numbers to be filled hold before.
+const SIGNED_FILL: i16 = -99;
 
 /// What books to be filled hold before.
 const FILL_BYTE: u8 = 9;
@@ -31,6 +35,11 @@ pub fn calls(seed: u64) -> Vec<Call> {
     calls.extend(dead_cases());
     calls.extend(dead_calls(random));
     calls.extend(dead_refusals(random));
+    calls.extend(single_calls(random));
+    calls.extend(level_calls(random));
+    calls.extend(level_refusals(random));
+    calls.extend(threshold_calls());
+    calls.extend(receive_calls(random));
     calls
 }
 
@@ -132,6 +141,27 @@ fn write_book_of(tunes: &Tunes, size: usize) -> Call {
         counts: tunes.counts,
         strikes: tunes.strikes,
         book: vec![FILL_BYTE; size],
+    }
+}
+
+fn levels(card: &[u16]) -> Call {
+    Call::Levels {
+        card: card.to_vec(),
+        levels: vec![SIGNED_FILL; 6],
+    }
+}
+
+fn symbols(levels: &[i16]) -> Call {
+    Call::Symbols {
+        levels: levels.to_vec(),
+        card: vec![FILL; 6],
+    }
+}
+
+fn receive(samples: &[i16]) -> Call {
+    Call::Receive {
+        samples: samples.to_vec(),
+        card: vec![FILL; 6],
     }
 }
 
@@ -569,5 +599,149 @@ fn dead_refusals(random: &mut Random) -> Vec<Call> {
     calls.push(decode_dead(2, [63, 64], &[728; 6]));
     calls.push(decode_dead(2, [63, 0], &[728; 6]));
     calls.push(decode_dead(2, [1, 2], &[65_535, 0, 0, 0, 0, 0]));
+    calls
+}
+
+/// One symbol or one number: the request's cases, those of few digits, those
+/// about the least and the greatest, and random ones.
+fn single_calls(random: &mut Random) -> Vec<Call> {
+    let mut calls = vec![];
+    for symbol in [
+        0, 2, 364, 728, 1, 3, 5, 6, 7, 8, 243, 363, 365, 486, 727, 729, 730, 1_024, 32_768, 65_535,
+    ] {
+        calls.push(Call::Signed { symbol });
+    }
+    for number in [
+        -32_768, -1_093, -729, -366, -365, -364, -363, -243, -122, -121, -2, -1, 0, 1, 2, 121, 122,
+        363, 364, 365, 366, 728, 729, 32_767,
+    ] {
+        calls.push(Call::Symbol { number });
+    }
+    for _ in 0..2 {
+        let card = samples::card(random);
+        calls.extend(card.map(|symbol| Call::Signed { symbol }));
+        let numbers = numbers_of(&samples::card(random));
+        calls.extend(numbers.map(|number| Call::Symbol { number }));
+    }
+    calls
+}
+
+/// Cards as levels, and back.
+fn level_calls(random: &mut Random) -> Vec<Call> {
+    let mut calls = vec![];
+    for card in [
+        [0; 6],
+        [364; 6],
+        [728; 6],
+        [1, 3, 9, 27, 81, 243],
+        [2, 6, 18, 54, 162, 486],
+        [2, 5, 14, 41, 122, 365],
+    ] {
+        calls.extend([levels(&card), symbols(&numbers_of(&card))]);
+    }
+    for _ in 0..12 {
+        let card = samples::card(random);
+        calls.push(Call::Levels {
+            card: card.to_vec(),
+            levels: signed_junk(random, 6),
+        });
+        calls.push(Call::Symbols {
+            levels: numbers_of(&card).to_vec(),
+            card: junk(random, 6),
+        });
+    }
+    calls
+}
+
+fn numbers_of(card: &Card) -> [i16; 6] {
+    cable::levels(card, 6).expect("a card")
+}
+
+/// A symbol or a number out of range in the first place, in the last or in
+/// all; and wrong lengths, whatever the list holds.
+fn level_refusals(random: &mut Random) -> Vec<Call> {
+    let mut calls = vec![];
+    for symbol in [729, 65_535] {
+        for place in [0, 5] {
+            let mut card = samples::card(random);
+            card[place] = symbol;
+            calls.push(levels(&card));
+        }
+        calls.push(levels(&[symbol; 6]));
+    }
+    for number in [-32_768, -365, 365, 32_767] {
+        for place in [0, 5] {
+            let mut numbers = numbers_of(&samples::card(random));
+            numbers[place] = number;
+            calls.push(symbols(&numbers));
+        }
+        calls.push(symbols(&[number; 6]));
+    }
+    for [read, filled] in [[0, 6], [5, 6], [7, 6], [6, 0], [6, 5], [6, 7], [16, 16]] {
+        for symbol in [0, 729] {
+            calls.push(Call::Levels {
+                card: vec![symbol; read],
+                levels: signed_junk(random, filled),
+            });
+        }
+        for number in [0, 365] {
+            calls.push(Call::Symbols {
+                levels: vec![number; read],
+                card: junk(random, filled),
+            });
+        }
+    }
+    calls
+}
+
+/// The samples next to the thresholds, and the least and the greatest: each in
+/// every place, and each alone, among rests and among others.
+fn threshold_calls() -> Vec<Call> {
+    let edges = [8_191, 8_192, -8_191, -8_192, -32_768, 32_767];
+    let mut calls = vec![];
+    for turn in 0..6 {
+        let edge = |place: usize| edges[(place + place / 6 + turn) % 6];
+        let samples: [i16; 36] = std::array::from_fn(edge);
+        calls.push(receive(&samples));
+    }
+    for (turn, edge) in edges.into_iter().enumerate() {
+        let strong = [9_000, -9_000][turn % 2];
+        for (other, place) in [(0, 7 * turn), (strong, 35 - turn)] {
+            let mut samples = [other; 36];
+            samples[place] = edge;
+            calls.push(receive(&samples));
+        }
+    }
+    calls
+}
+
+/// Random cards, sent strongly or just so that they are received; and wrong
+/// lengths.
+fn receive_calls(random: &mut Random) -> Vec<Call> {
+    let mut calls = vec![];
+    for _ in 0..6 {
+        let samples: [i16; 36] = std::array::from_fn(|_| *random.pick(&[0, 30_000, -30_000]));
+        calls.push(receive(&samples));
+        let card = samples::card(random);
+        calls.push(Call::Receive {
+            samples: samples::on_cable(random, &card),
+            card: junk(random, 6),
+        });
+    }
+    for [samples, card] in [
+        [0, 6],
+        [6, 6],
+        [35, 6],
+        [37, 6],
+        [48, 6],
+        [36, 0],
+        [36, 5],
+        [36, 7],
+    ] {
+        calls.push(Call::Receive {
+            samples: vec![8_192; samples],
+            card: junk(random, card),
+        });
+    }
     calls
 }

@@ -2,6 +2,7 @@
 //! states of the field and the code. Needs no proved library.
 
 use compare::book;
+use compare::cable;
 use compare::code::{decode, decode_by_messages, encode, radius, syndrome, weight, Card, Decoded};
 use compare::dead::{self, decode_dead, Lines};
 use compare::digits::Digits;
@@ -769,5 +770,113 @@ fn damage_in_live_lines_within_the_bound_is_decoded() {
             };
             assert_eq!(mend_dead(k, sent.received, dead), Ok(decoded));
         }
+    }
+}
+
+/// The request's cases, and numbers by hand.
+#[test]
+fn cable_cases() {
+    for (symbol, number) in [
+        (0, 0),
+        (2, -1),
+        (364, 364),
+        (728, -364),
+        (1, 1),
+        (3, 3),
+        (5, 3 - 1),
+        (6, -3),
+        (7, -3 + 1),
+        (8, -3 - 1),
+        (485, 243 - 81 - 27 - 9 - 3 - 1),
+        (486, -243),
+    ] {
+        assert_eq!(cable::signed(symbol), Ok(number));
+        assert_eq!(cable::symbol(number), Ok(symbol));
+    }
+    for symbol in [729, 730, 32_768, u16::MAX] {
+        assert_eq!(cable::signed(symbol), Err(Refusal::Range));
+    }
+    for number in [i16::MIN, -729, -365, 365, 729, i16::MAX] {
+        assert_eq!(cable::symbol(number), Err(Refusal::Range));
+    }
+    let card = [0, 2, 364, 728, 5, 485];
+    let numbers = [0, -1, 364, -364, 2, 122];
+    assert_eq!(cable::levels(&card, 6), Ok(numbers));
+    assert_eq!(cable::symbols(&numbers, 6), Ok(card));
+}
+
+/// The sum of the levels of a symbol's digits, times the powers of 3.
+fn sum_of_levels(symbol: u16) -> i16 {
+    let digits = Digits::of_number(symbol.into());
+    let level = |place| [0, 1, -1][digits.digit(place) as usize];
+    (0..6).map(|place| level(place) * 3i16.pow(place)).sum()
+}
+
+/// Numbers are what the request says, a symbol has each from -364 to 364, and
+/// the field's negative has the negated number.
+#[test]
+fn cable_facts() {
+    for symbol in 0..729 {
+        let number = sum_of_levels(symbol);
+        assert_eq!(cable::signed(symbol), Ok(number));
+        assert_eq!(cable::symbol(number), Ok(symbol));
+        let negative = (-Element::of_symbol(symbol)).symbol();
+        assert_eq!(cable::signed(negative), Ok(-number));
+    }
+    for number in i16::MIN..=i16::MAX {
+        let inside = (-364..=364).contains(&number);
+        assert_eq!(cable::symbol(number).is_ok(), inside);
+    }
+}
+
+#[test]
+fn samples_of_the_cable() {
+    for (sample, digit) in [
+        (i16::MIN, 2),
+        (-8_193, 2),
+        (-8_192, 2),
+        (-8_191, 0),
+        (-1, 0),
+        (0, 0),
+        (1, 0),
+        (8_191, 0),
+        (8_192, 1),
+        (8_193, 1),
+        (i16::MAX, 1),
+    ] {
+        // Symbol by symbol, the lowest digit first.
+        for place in 0..36 {
+            let mut samples = [0; 36];
+            samples[place] = sample;
+            let mut card = [0; 6];
+            card[place / 6] = digit * 3u16.pow(place as u32 % 6);
+            assert_eq!(cable::receive(&samples, 6), Ok(card));
+        }
+    }
+    let mut random = Random::new(14);
+    for _ in 0..1_000 {
+        let card = samples::card(&mut random);
+        let samples = samples::on_cable(&mut random, &card);
+        assert_eq!(cable::receive(&samples, 6), Ok(card));
+    }
+}
+
+#[test]
+fn order_of_refusals_of_the_cable() {
+    for [read, filled] in [[5, 6], [7, 6], [6, 5], [6, 7], [0, 6], [6, 0]] {
+        let (card, numbers) = (vec![729; read], vec![365; read]);
+        assert_eq!(cable::levels(&card, filled), Err(Refusal::Length));
+        assert_eq!(cable::symbols(&numbers, filled), Err(Refusal::Length));
+    }
+    for [read, filled] in [[35, 6], [37, 6], [36, 5], [36, 7], [0, 6], [6, 6]] {
+        let samples = vec![0; read];
+        assert_eq!(cable::receive(&samples, filled), Err(Refusal::Length));
+    }
+    for place in 0..6 {
+        let (mut card, mut numbers) = ([728; 6], [-364; 6]);
+        card[place] = 729;
+        numbers[place] = -365;
+        assert_eq!(cable::levels(&card, 6), Err(Refusal::Range));
+        assert_eq!(cable::symbols(&numbers, 6), Err(Refusal::Range));
     }
 }

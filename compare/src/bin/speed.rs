@@ -17,11 +17,15 @@
 //! lines only that row is printed which takes the proved library longest;
 //! the others can be named. With no dead line it is `decode`.
 //!
+//! `levels`, `symbols` and `receive` are of random cards, and a call of each
+//! is of one card; the samples are any of their levels.
+//!
 //! With the name of an operation as arguments it prints only the rows of that.
 //! With the words of a row before its times it makes only that row's calls,
 //! once each: for a tool that counts instructions.
 
 use compare::book::LISTING_MAX;
+use compare::cable;
 use compare::capi::Proved;
 use compare::code::{radius, Card};
 use compare::fast::Fast;
@@ -80,6 +84,9 @@ fn main() {
     process_rows();
     write_book_rows();
     book_size_row();
+    levels_row();
+    symbols_row();
+    receive_row();
 }
 
 fn encode_rows() {
@@ -261,6 +268,53 @@ fn book_size_row() {
     );
 }
 
+fn levels_row() {
+    let names = ["levels", "-", "-"];
+    if !is_wanted(names) {
+        return;
+    }
+    let cards = random_cards();
+    row(
+        names,
+        INPUTS,
+        || levels_all::<Proved>(&cards),
+        || levels_all::<Fast>(&cards),
+    );
+}
+
+fn symbols_row() {
+    let names = ["symbols", "-", "-"];
+    if !is_wanted(names) {
+        return;
+    }
+    let numbers = |card| cable::levels(card, 6).expect("a card");
+    let lists: Vec<[i16; 6]> = random_cards().iter().map(|card| numbers(card)).collect();
+    row(
+        names,
+        INPUTS,
+        || symbols_all::<Proved>(&lists),
+        || symbols_all::<Fast>(&lists),
+    );
+}
+
+fn receive_row() {
+    let names = ["receive", "-", "-"];
+    if !is_wanted(names) {
+        return;
+    }
+    let random = &mut Random::new(2);
+    let lists: Vec<Vec<i16>> = random_cards()
+        .iter()
+        .map(|card| samples::on_cable(random, card))
+        .collect();
+    row(
+        names,
+        INPUTS,
+        || receive_all::<Proved>(&lists),
+        || receive_all::<Fast>(&lists),
+    );
+}
+
 /// The program of the repository.
 fn proved_program() -> PathBuf {
     let path = Path::new(env!("CARGO_MANIFEST_DIR")).join("../target/bin/list_book");
@@ -405,6 +459,12 @@ fn cards(k: u32, damage: Damage, count: usize) -> Vec<Card> {
     (0..count).map(card).collect()
 }
 
+/// Cards of any symbols.
+fn random_cards() -> Vec<Card> {
+    let random = &mut Random::new(1);
+    (0..INPUTS).map(|_| samples::card(random)).collect()
+}
+
 /// A card that is refused.
 fn hopeless_card(random: &mut Random, decode: impl Fn(&Card) -> u32) -> Card {
     loop {
@@ -517,6 +577,36 @@ fn size_of<L: Library>(counts: &[u16]) -> u64 {
     let mut size = 0;
     assert_eq!(L::book_size(black_box(counts), &mut size), 0);
     size as u64
+}
+
+fn levels_all<L: Library>(cards: &[Card]) -> u64 {
+    let mut levels = [0; 6];
+    let mut sum = 0;
+    for card in cards {
+        sum += u64::from(L::levels(card, &mut levels));
+        sum += u64::from(levels[0] as u16);
+    }
+    sum
+}
+
+fn symbols_all<L: Library>(lists: &[[i16; 6]]) -> u64 {
+    let mut card = [0; 6];
+    let mut sum = 0;
+    for levels in lists {
+        sum += u64::from(L::symbols(levels, &mut card));
+        sum += u64::from(card[0]);
+    }
+    sum
+}
+
+fn receive_all<L: Library>(lists: &[Vec<i16>]) -> u64 {
+    let mut card = [0; 6];
+    let mut sum = 0;
+    for samples in lists {
+        sum += u64::from(L::receive(samples, &mut card));
+        sum += u64::from(card[0]);
+    }
+    sum
 }
 
 /// Runs a program on a book; gives back the length of what it printed.

@@ -2,7 +2,7 @@
 //! boundary.
 
 use super::{cards, lengths, with_edges, EDGE_SYMBOLS, WRONG_K};
-use compare::call::{Call, Outcome};
+use compare::call::{wide, Call, Outcome};
 use compare::code::Card;
 use compare::library::Library;
 use compare::random::Random;
@@ -45,8 +45,8 @@ fn call(random: &mut Random, k: u32, dead: Masks, received: &[u16]) -> Call {
 fn found(sent: samples::Sent, rank: u32) -> Outcome {
     Outcome {
         status: 0,
-        numbers: vec![rank],
-        lists: vec![sent.word.to_vec(), sent.message],
+        numbers: wide(&[rank]),
+        lists: vec![wide(&sent.word), wide(&sent.message)],
     }
 }
 

@@ -2,13 +2,14 @@
 //! random inputs, damage of every rank, and every boundary.
 
 use compare::book::{self, LISTING_MAX, LONGEST_BODY, LONGEST_BOOK};
-use compare::call::{Call, Outcome};
+use compare::call::{wide, Call, Outcome};
 use compare::code::{self, radius, Card};
 use compare::lent::{reading, Lent};
 use compare::library::Library;
 use compare::random::Random;
 use compare::samples::{self, junk, Sent};
 
+pub mod cable;
 pub mod dead;
 pub mod writing;
 
@@ -195,8 +196,8 @@ pub fn decode_known<L: Library>() {
             let sent = samples::sent(&mut random, k, damage);
             let known = Outcome {
                 status: 0,
-                numbers: vec![damage],
-                lists: vec![sent.word.to_vec(), sent.message],
+                numbers: wide(&[damage]),
+                lists: vec![wide(&sent.word), wide(&sent.message)],
             };
             decode_call(&mut random, k, sent.received.to_vec()).expect::<L>(&known);
         }
@@ -475,7 +476,7 @@ fn kinds(random: &mut Random) -> [(Card, Result<u32, u32>); 5] {
 fn expect_known<L: Library>(call: Call, known: Result<u32, u32>) {
     let known = Outcome {
         status: known.err().unwrap_or(0),
-        numbers: known.into_iter().collect(),
+        numbers: known.into_iter().map(i64::from).collect(),
         lists: vec![],
     };
     assert_eq!(call.expected(), known, "{call:?}");
@@ -916,6 +917,51 @@ macro_rules! suite {
         #[test]
         fn read_and_written() {
             suite::writing::read_and_written::<$library>();
+        }
+
+        #[test]
+        fn cable_all_symbols() {
+            suite::cable::all_symbols::<$library>();
+        }
+
+        #[test]
+        fn cable_all_numbers() {
+            suite::cable::all_numbers::<$library>();
+        }
+
+        #[test]
+        fn cable_any_lists() {
+            suite::cable::any_lists::<$library>();
+        }
+
+        #[test]
+        fn cable_there_and_back() {
+            suite::cable::there_and_back::<$library>();
+        }
+
+        #[test]
+        fn cable_negatives() {
+            suite::cable::negatives::<$library>();
+        }
+
+        #[test]
+        fn cable_thresholds() {
+            suite::cable::thresholds::<$library>();
+        }
+
+        #[test]
+        fn cable_all_samples() {
+            suite::cable::all_samples::<$library>();
+        }
+
+        #[test]
+        fn cable_sent_and_decoded() {
+            suite::cable::sent_and_decoded::<$library>();
+        }
+
+        #[test]
+        fn cable_wrong_lengths() {
+            suite::cable::wrong_lengths::<$library>();
         }
     };
 }

@@ -1,13 +1,13 @@
 -- Digits: a symbol is its six digits, and add and scale go digit by digit, so their laws are those of numbers modulo 3. They hold at all
 -- numbers: a number stands for the symbol that is its remainder by 729.
--- Main: number-digits, digits-number, digit-add, digit-scale, by-digits, and the laws of add and scale.
+-- Main: number-digits, digits-number, digit-number, digit-add, digit-scale, by-digits, and the laws of add and scale.
 use mathlib.Core.Path.{_≡_, refl, sym, ap, _∙_}
 use mathlib.Core.List.{List, [], _∷_}
 use Prim.Native.Nat.{ℕ, zero, suc, _+_, _*_, _/_, _%_, _^_, _<_}
 use native.Mathlib.Omega.{arith}
 use lib.ListN.{length, getD}
 use Rattle.algebra.specs.Field.{digits-of, number-of, digits, added, add, scaled, scale}
-use Rattle.algebra.specs.Lists.{cons, All}
+use Rattle.algebra.specs.Lists.{cons, table, at-table, All, all-table}
 use Rattle.algebra.specs.Mod3.{_≈_, times-≈}
 
 -- THE DIGITS of sums and multiples
@@ -59,6 +59,15 @@ unfolding scaled
 scaled-at d [] j = omega arith
 scaled-at d (x ∷ xs) zero = refl
 scaled-at d (x ∷ xs) (suc j) = scaled-at d xs j
+
+-- a number of six given digits is a symbol, and has these digits
+pub number-below : (f : ℕ → ℕ) → number-of (table 6 f) < 729
+unfolding number-of table
+number-below f = omega arith
+
+pub digit-number : (f : ℕ → ℕ) → ((i : ℕ) → f i < 3) → (i : ℕ) → i < 6 → digit (number-of (table 6 f)) i ≡ f i
+unfolding digits table
+digit-number f h i l = ap (λ (ds : List ℕ). getD ds i 0) (digits-number (table 6 f) (all-table (λ d. d < 3) 6 f h)) ∙ at-table 6 f i l
 
 pub digit-add : (a b j : ℕ) → digit (add a b) j ≡ (digit a j + digit b j) % 3
 unfolding digits

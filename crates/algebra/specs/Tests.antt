@@ -1,6 +1,6 @@
 -- Tests: what a computed test of all numbers below n shows of each, the test by which lists are cards and messages, and proofs for each of
 -- a few numbers.
--- Main: both, neither, tested, tested-2, tested-if, some-below, passed, passes, one-to-five, below-six.
+-- Main: both, neither, tested, tested-2, tested-if, some-below, any, any-none, passed, passes, one-to-five, below-six.
 use mathlib.Core.Path.{_≡_, refl, sym}
 use mathlib.Core.Bool.{Bool, true, false, _&&_, _||_, not, true≢false}
 use mathlib.Core.List.{List, [], _∷_}
@@ -9,8 +9,8 @@ use native.Mathlib.Decide.{ℕ-discrete}
 use native.Mathlib.Omega.{arith}
 use lib.Dec.{eqb, ltb}
 use lib.ListN.{length}
-use borrow.Author.Tests.{eqb-true, eq-eqb, ltb-false, le-ltb}
-use Rattle.algebra.specs.Lists.{All}
+use borrow.Author.Tests.{eqb-true, eq-eqb, ltb-false, le-ltb, not-true}
+use Rattle.algebra.specs.Lists.{All, all-map}
 
 pub both : (a b : Bool) → (a && b) ≡ true → (a ≡ true) × (b ≡ true)
 both true b e = (refl, e)
@@ -56,20 +56,22 @@ some-below (suc n) f = go (ℕ-discrete (f n) 0) (some-below n f)
     go (no m) (yes t) = yes (t .0, omega (arith, t .1), t .2)
     go (no m) (no d) = no (λ t. elim (ℕ-discrete (t .0) n) [ yes e ↦ m (rw e at (t .2)) | no l ↦ d (t .0, omega (arith, t .1), t .2) ])
 
+-- SOME ENTRY OF A LIST passes a test, and where none does
+abbrev pub any : {A : Type 0} → (A → Bool) → List A → Bool
+any p [] = false
+any p (x ∷ xs) = p x || any p xs
+
+pub any-none : {A : Type 0} (p : A → Bool) (l : List A) → any p l ≡ false → All (λ x. p x ≡ false) l
+any-none p [] e = tt
+any-none p (x ∷ l) e = let t = neither (p x) (any p l) e in (t .0, any-none p l (t .1))
+
 -- A LIST OF n NUMBERS, none above h
 unfoldable pub any-above : (most : ℕ) → List ℕ → Bool
-any-above h [] = false
-any-above h (x ∷ xs) = ltb h x || any-above h xs
+any-above h l = any (ltb h) l
 
 none-above : (h : ℕ) (l : List ℕ) → not (any-above h l) ≡ true → All (λ x. x < suc h) l
 unfolding any-above
-none-above h [] e = tt
-none-above h (x ∷ l) e = go (ltb h x) refl e (none-above h l)
-  where
-    go : (a : Bool) → ltb h x ≡ a → not (a || any-above h l) ≡ true → (not (any-above h l) ≡ true → All (λ x. x < suc h) l)
-        → (x < suc h) × All (λ x. x < suc h) l
-    go true t e f = absurd (true≢false (sym e))
-    go false t e f = (omega (arith, ltb-false h x t), f e)
+none-above h l e = all-map (λ x t. omega (arith, ltb-false h x t)) l (any-none (ltb h) l (not-true (any-above h l) e))
 
 above-none : (h : ℕ) (l : List ℕ) → All (λ x. x < suc h) l → any-above h l ≡ false
 unfolding any-above

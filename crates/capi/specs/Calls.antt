@@ -1,5 +1,6 @@
--- What the functions of the C interface promise: the refusal's number, and what is in each list and number lent afterwards.
--- Main: Gives, Encodes, Tests, Decodes, DecodesDead, Pulls, Lists, Reads, card-number, Writes, Fills.
+-- What the functions of the C interface promise: the refusal's number, and what is in each list and number lent afterwards. Of calls that are lent
+-- one number, and of those of the cable, `Gives` (refusal/Replies) says it.
+-- Main: Encodes, Tests, Decodes, DecodesDead, Pulls, Lists, Reads, card-number, Writes, Fills.
 use mathlib.Core.Path.{_≡_}
 use mathlib.Core.List.{List}
 use mathlib.Core.Option.{Option, none, some}
@@ -21,11 +22,6 @@ use Rattle.book.specs.Reading.{reading}
 use Rattle.text.specs.Text.{written, room-refusal}
 use Rattle.listing.specs.Listing.{listing, longest}
 use Rattle.writer.specs.Writing.{book-bytes, write-refusal}
-
--- a call whose refusal is n and whose answer is v
-pub record Gives (n v old r now : ℕ) : Type 0 where
-  pub answers : r ≡ n
-  pub number-is : now ≡ unless n v old
 
 -- encoding, testing and decoding fill their lists
 pub record Encodes (k : ℕ) (m w : List ℕ) (r : ℕ) (w-now : List ℕ) : Type 0 where

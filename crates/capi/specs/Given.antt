@@ -9,7 +9,7 @@ use lib.Dec.{eqb}
 use lib.ListN.{length}
 use borrow.Author.Tests.{ne-eqb}
 use Rattle.refusal.specs.declared.Refusal.{Refusal}
-use Rattle.refusal.specs.Replies.{number, refusal-some, Reply, replied, refused-with, reply-with, unless}
+use Rattle.refusal.specs.Replies.{number, refusal-some, Reply, replied, refused-with, reply-with, unless, Gives}
 use Rattle.rank.specs.declared.Weight.{Weight}
 use Rattle.strike.specs.declared.Strike.{Strike}
 use Rattle.book.specs.declared.entries.Entry.{Entry}
@@ -22,7 +22,7 @@ use Rattle.book.specs.Pulled.{pulled-good}
 use Rattle.book.specs.Entries.{tune-reply, tune-at}
 use Rattle.book.specs.Reading.{Card-value, read-reply, reading}
 use Rattle.book.specs.Bounds.{good-length}
-use Rattle.capi.specs.Calls.{Gives, Lists, Reads}
+use Rattle.capi.specs.Calls.{Lists, Reads}
 
 -- A NUMBER AFTERWARDS: the answer where there is no refusal, else what it was
 pub unless-none : (n v old : ℕ) → n ≡ 0 → v ≡ unless n v old
@@ -39,7 +39,7 @@ module _ {A : Type 0} (f : A → ℕ) (empty : A) where
       → Gives (s .refusal) (f (s .value)) old r now
   reply-given t s old r now e a g = record {
     answers = a ∙ ap (λ (x : Reply A). x .refusal) e;
-    number-is = g ∙ ap (λ (x : Reply A). unless (x .refusal) (f (x .value)) old) e;
+    lent-is = g ∙ ap (λ (x : Reply A). unless (x .refusal) (f (x .value)) old) e;
   }
 
   given-value : (old : ℕ) (v : A) (b : Bool) → cond b (f (cond b v empty)) old ≡ cond b (f v) old
@@ -51,7 +51,7 @@ module _ {A : Type 0} (f : A → ℕ) (empty : A) where
   unfolding reply-with unless
   given t n v old r now e a g =
       let s = reply-given t (reply-with empty n v) old r now e a g in
-      record { answers = s .answers; number-is = s .number-is ∙ given-value old v (eqb n 0) }
+      record { answers = s .answers; lent-is = s .lent-is ∙ given-value old v (eqb n 0) }
 
   -- in code: a refusal leaves the number as it was, a value is given
   pub refused-given : (t : Reply A) (x : Refusal) (m old : ℕ) → t ≡ refused-with empty (number x) → m ≡ number x

@@ -1,13 +1,17 @@
 // The C interface (include/lucetcoral.h): numbers and lists only, thin over the library. Each function returns 0 when done, or the refusal's
 // number; a refusal changes nothing that is lent.
 ghost use mathlib.Core.Path.{_≡_};
-ghost use Rattle.refusal.specs.Replies.{reply, unless};
+ghost use mathlib.Core.List.{map};
+ghost use lib.ListN.{length};
+ghost use Rattle.refusal.specs.Replies.{reply, unless, Gives};
 ghost use Rattle.rank.specs.Weight.{weight-of, weight-reply, weight-refusal};
+ghost use Rattle.levels.specs.Levels.{signed-of, symbol-of, received};
+ghost use Rattle.cable.specs.Operations.{levels-refusal, symbols-refusal, receive-refusal};
 ghost use Rattle.book.specs.Layout.{tunes};
 ghost use Rattle.book.specs.Open.{open-refusal};
 ghost use Rattle.book.specs.Bodies.{body-refusal, total-delay, first-damaged, worn-reply};
 ghost use Rattle.writer.specs.Writing.{book-length, size-refusal};
-ghost use Rattle.capi.specs.Calls.{Gives, Encodes, Tests, Decodes, DecodesDead, Pulls, Lists, Reads, card-number, Writes, Fills};
+ghost use Rattle.capi.specs.Calls.{Encodes, Tests, Decodes, DecodesDead, Pulls, Lists, Reads, card-number, Writes, Fills};
 use book::Entry;
 use book::Reading;
 use book::Worn;
@@ -129,6 +133,30 @@ pub extern "C" fn lucetcoral_decode_dead(
         dead_decoder::decode_dead(k, received, dead_rows, dead_columns, word, message),
         rank,
     )
+}
+
+// The levels of a card, as six signed numbers (document 02, P6).
+#[no_mangle]
+pub extern "C" fn lucetcoral_levels(card: &[u16], levels: &mut [i16]) -> u32
+    ensures { λ r. ⌜ Gives (levels-refusal (now (card .entry)) (length (now (levels .entry)))) (map signed-of (now (card .entry))) (now (levels .entry)) r (now (levels .exit)) ⌝ }
+{
+    refusal::outcome_number(cable::levels(card, levels))
+}
+
+// The card of six signed numbers (document 02, P6).
+#[no_mangle]
+pub extern "C" fn lucetcoral_symbols(levels: &[i16], card: &mut [u16]) -> u32
+    ensures { λ r. ⌜ Gives (symbols-refusal (now (levels .entry)) (length (now (card .entry)))) (map symbol-of (now (levels .entry))) (now (card .entry)) r (now (card .exit)) ⌝ }
+{
+    refusal::outcome_number(cable::symbols(levels, card))
+}
+
+// The card received as 36 samples (document 02, P6).
+#[no_mangle]
+pub extern "C" fn lucetcoral_receive(samples: &[i16], card: &mut [u16]) -> u32
+    ensures { λ r. ⌜ Gives (receive-refusal (now (samples .entry)) (length (now (card .entry)))) (received (now (samples .entry))) (now (card .entry)) r (now (card .exit)) ⌝ }
+{
+    refusal::outcome_number(cable::receive(samples, card))
 }
 
 // The number of tunes of a book (document 01: Open).

@@ -4,6 +4,7 @@
 // Assumes what `io` and `libc` assume of reading and writing; of the input, at most 131,072 bytes are read.
 mod books;
 mod code;
+mod levels;
 mod parse;
 mod print;
 mod tunes;
@@ -26,6 +27,11 @@ fn run(line: &[u8]) {
         11 => books::write_book(line, at),
         12 => books::book_size(line, at),
         13 => code::decode_dead(line, at),
+        14 => levels::signed(line, at),
+        15 => levels::symbol(line, at),
+        16 => levels::levels(line, at),
+        17 => levels::symbols(line, at),
+        18 => levels::receive(line, at),
         _ => {},
     }
     io::write_all(1, b"\n");

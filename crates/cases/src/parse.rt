@@ -1,6 +1,7 @@
 // Decimal numbers, lists and lines from a text. Whatever is no digit separates numbers; a number that is missing is 0.
+ghost use mathlib.Core.Path.{_≡_};
 ghost use Prim.Native.Nat.{_<_, _≤_};
-ghost use lib.ListN.{length};
+ghost use lib.ListN.{length, take};
 ghost use Rattle.io.specs.Counts.{Counts};
 
 // A number, and where it ends in the text.
@@ -112,6 +113,57 @@ pub(crate) fn bytes(text: &[u8], at: usize, list: &mut [u8]) -> Filled
         let next = number(text, at);
         list[i] = (next.value % 256) as u8;
         at = next.at;
+        i += 1;
+    }
+    Filled {
+        count: count,
+        at: at,
+    }
+}
+
+// Whether a minus sign stands directly before a place of the text.
+fn minus_before(text: &[u8], at: usize) -> bool {
+    if at == 0 {
+        return false;
+    }
+    if text.len() < at {
+        return false;
+    }
+    text[at - 1] == b'-'
+}
+
+// A number of this size and sign, or 0 if it does not fit 16 bits.
+fn with_sign(size: u32, minus: bool) -> i16 {
+    if 32768 < size {
+        return 0;
+    }
+    if minus {
+        return (-(size as i32)) as i16;
+    }
+    if size == 32768 {
+        return 0;
+    }
+    size as i16
+}
+
+// The first signed number from `at` on. A minus sign stands directly before its digits.
+pub(crate) fn signed(text: &[u8], at: usize) -> i16 {
+    let minus = minus_before(text, digit_from(text, at));
+    with_sign(number(text, at).value, minus)
+}
+
+// As `symbols`, of signed numbers.
+pub(crate) fn signed_numbers(text: &[u8], at: usize, list: &mut [i16]) -> Filled
+    ensures { λ r. ⌜ (r .count ≤ length (now (list .exit))) × (r .count ≡ length (take (r .count) (now (list .exit)))) ⌝ }
+{
+    let length = number(text, at);
+    let count = least(length.value as usize, list.len());
+    let mut at = length.at;
+    let mut i = 0;
+    while i < count {
+        let next = signed(text, at);
+        list[i] = next;
+        at = number(text, at).at;
         i += 1;
     }
     Filled {

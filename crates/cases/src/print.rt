@@ -3,6 +3,7 @@
 use book::Entry;
 use book::Reading;
 use book::Worn;
+use cable::SignedAnswer;
 use rank::Weighed;
 use refusal::Answer;
 use refusal::Outcome;
@@ -98,6 +99,46 @@ pub(crate) fn bytes(list: &[u8]) {
     let mut i = 0;
     while i < list.len() {
         number(list[i] as u64);
+        i += 1;
+    }
+}
+
+// The size of a number, without its sign.
+fn size(n: i16) -> u64 {
+    if n < 0 {
+        return (-(n as i32)) as u64;
+    }
+    n as u64
+}
+
+// A signed number after the first.
+fn signed(n: i16) {
+    if n < 0 {
+        io::write_all(1, b" -");
+        io::print_decimal(1, size(n));
+        return;
+    }
+    number(size(n));
+}
+
+// A status of 0 and one signed number.
+fn done_with_signed(n: i16) {
+    done();
+    signed(n);
+}
+
+pub(crate) fn signed_answer(of: SignedAnswer) {
+    match of {
+        SignedAnswer::Value(n) => done_with_signed(n),
+        SignedAnswer::Refused(why) => refused(why),
+    }
+}
+
+pub(crate) fn signed_numbers(list: &[i16]) {
+    let mut i = 0;
+    while i < list.len() {
+        let n = list[i];
+        signed(n);
         i += 1;
     }
 }

@@ -1,5 +1,5 @@
 -- What holds once the tests of an operation are passed, and what an operation leaves where it refuses and where it is done.
--- Main: k-good, tests-passed, encode-passed, syndrome-passed, encoded-refused, encoded-done, tested-refused, tested-done.
+-- Main: k-good, tests-passed, lists-passed, encode-passed, syndrome-passed, encoded-refused, encoded-done, tested-refused, tested-done.
 use mathlib.Core.Path.{_≡_, refl, sym}
 use mathlib.Core.Bool.{Bool, true, false, _&&_, not}
 use mathlib.Core.List.{List}
@@ -32,6 +32,13 @@ tests-passed false false false e = (refl, refl, refl)
 
 pub both-equal : (a b : ℕ) (t : Bool) → not (eqb a b && t) ≡ false → (a ≡ b) × (t ≡ true)
 both-equal a b t e = let s = both (eqb a b) t (not-false (eqb a b && t) e) in (eqb-true a b (s .0), s .1)
+
+-- the tests of two lists, without a k
+pub lists-passed : (a m b n : ℕ) (r : Bool) → tests false (not (eqb a m && eqb b n)) r ≡ 0 → (a ≡ m) × (b ≡ n) × (r ≡ false)
+lists-passed a m b n r e =
+    let (_, l, q) = tests-passed false _ r e in
+    let (s, t) = both-equal a m (eqb b n) l in
+    (s, eqb-true b n t, q)
 
 pub fits : (n l most : ℕ) (v : List ℕ) → n ≡ l → any-above most v ≡ false → (eqb n l && not (any-above most v)) ≡ true
 fits n l most v p r = rw (eq-eqb n l p, r)

@@ -13,3 +13,4 @@ pub use spectra::spectrum;
 pub use syndromes::syndrome;
 pub use tests::lengths_fit;
 pub use tests::test_input;
+pub use tests::test_list;

@@ -1,6 +1,6 @@
 // The tests that operations on cards begin with, in their order. They look and answer, and change nothing.
 ghost use mathlib.Core.Path.{_≡_};
-ghost use mathlib.Core.Bool.{_&&_, not};
+ghost use mathlib.Core.Bool.{false, _&&_, not};
 ghost use Prim.Native.Nat.{_*_, _-_};
 ghost use lib.Dec.{eqb};
 ghost use Rattle.algebra.specs.Tests.{any-above};
@@ -42,13 +42,10 @@ pub fn lengths_fit(a: usize, m: usize, b: usize, n: usize) -> bool
     b == n
 }
 
-// 1 if k is not 1 to 5; 2 if the lists do not fit; 3 if a number of the list is above `most`.
-pub fn test_input(k: u32, fit: bool, list: &[u16], most: u16) -> Outcome
-    ensures { λ r. ⌜ outcome r ≡ tests (k-bad k) (not fit) (any-above most (now (list .entry))) ⌝ }
+// 2 if the lists do not fit; 3 if a number of the list is above `most`.
+pub fn test_list(fit: bool, list: &[u16], most: u16) -> Outcome
+    ensures { λ r. ⌜ outcome r ≡ tests false (not fit) (any-above most (now (list .entry))) ⌝ }
 {
-    if bad_dimension(k) {
-        return Outcome::Refused(Refusal::Dimension);
-    }
     if !fit {
         return Outcome::Refused(Refusal::Length);
     }
@@ -56,6 +53,16 @@ pub fn test_input(k: u32, fit: bool, list: &[u16], most: u16) -> Outcome
         return Outcome::Refused(Refusal::Range);
     }
     Outcome::Done
+}
+
+// 1 if k is not 1 to 5; then as `test_list`.
+pub fn test_input(k: u32, fit: bool, list: &[u16], most: u16) -> Outcome
+    ensures { λ r. ⌜ outcome r ≡ tests (k-bad k) (not fit) (any-above most (now (list .entry))) ⌝ }
+{
+    if bad_dimension(k) {
+        return Outcome::Refused(Refusal::Dimension);
+    }
+    test_list(fit, list, most)
 }
 
 pub(crate) fn encode_tests(k: u32, message: &[u16], room: usize) -> Outcome

@@ -1,11 +1,12 @@
 -- The page that a sceptic reads first: what each operation answers and leaves in the lists lent to it, in the words of SPECIFICATION 8.
 -- src/lib.rt promises it of the operations themselves. To be read with rank/Definitions, rank/Weight, coding/Code, coding/Promise, strike/Strikes,
 -- book/Layout and book/Open; for dead lines also with dead_lines/Struck and `ones` of rank/Mask; for Write with strike/Turns, writer/Writing and
--- `Shows` of writer/Shown. What holds of written books is `Books-say` (WrittenBooks). Answers are replies (refusal/Replies): `outcome`, `reply`,
--- `weight-reply` (rank/Weight), `read-reply` (book/Reading) and `worn-reply` (book/Bodies) give them for each case of an enum. A message or a list mu
--- that is named here is the only one of its kind.
+-- `Shows` of writer/Shown; for the cable with levels/Levels and `Sent` of levels/Received. What holds of written books is `Books-say`
+-- (WrittenBooks). Answers are replies (refusal/Replies): `outcome`, `reply`, `weight-reply` (rank/Weight), `read-reply` (book/Reading), `worn-reply`
+-- (book/Bodies) and `signed-reply` (cable/Operations) give them for each case of an enum. A message or a list mu that is named here is the only one of
+-- its kind.
 -- Main: Code-says, Press-says, Weigh-says, Test-says, Mend-says, Mend-dead-says, Mends-alike, Open-says, Pull-says, Read-says, Length-says,
--- Worn-says, Write-says, Size-says.
+-- Worn-says, Write-says, Size-says, Cable-says, Signed-says, Symbol-says, Levels-says, Symbols-says, Receive-says, Mends-sent.
 --
 -- THE FIRST DEMAND: every operation ends, does nothing undefined, refuses bad input by number in a fixed order, and then changes nothing.
 -- That it ends and does nothing undefined is what a proof in Rattle is, and no operation has a `requires`. Each `-refusal` below has the numbers
@@ -15,21 +16,25 @@
 use mathlib.Core.Path.{_≡_}
 use mathlib.Core.Logic.{_⊎_, _≢_, _↔_}
 use mathlib.Core.Bool.{Bool, true, false, _&&_, _||_, not, cond}
-use mathlib.Core.List.{List, []}
+use mathlib.Core.List.{List, [], _∷_, map}
 use mathlib.Core.Option.{Option, none, some}
 use Prim.Native.Nat.{ℕ, zero, suc, _+_, _*_, _-_, _≤_, _<_}
 use lib.Dec.{ltb, eqb}
 use lib.ListN.{length, take, drop}
-use Rattle.algebra.specs.Tests.{any-above}
+use lib.IntN.{ℤ, pos, negsuc, negℤ}
+use Rattle.algebra.specs.Field.{minus}
+use Rattle.algebra.specs.Tests.{any, any-above}
 use Rattle.algebra.specs.SmallField.{Small-field}
 use Rattle.refusal.specs.Replies.{Reply, replied, refused-with, reply-with}
 use Rattle.rank.specs.declared.Weight.{Weight}
-use Rattle.rank.specs.Definitions.{difference}
+use Rattle.rank.specs.Definitions.{is-card, difference}
 use Rattle.rank.specs.Distance.{Rank-even}
 use Rattle.rank.specs.Weight.{weight-of, no-weight}
 use Rattle.coding.specs.Code.{word, Near, test-values}
 use Rattle.coding.specs.Promise.{One-near, Far-apart, Words-cards, Mu, Mu-there, Test-tells}
 use Rattle.dead_lines.specs.Struck.{dead-lines, live-rank, NearDead, One-near-dead}
+use Rattle.levels.specs.Levels.{signed-of, outside, symbol-of, received}
+use Rattle.levels.specs.Received.{Sent}
 use Rattle.codec.specs.Operations.{k-bad}
 use Rattle.strike.specs.Strikes.{strike-of}
 use Rattle.strike.specs.Turns.{any-beyond}
@@ -248,3 +253,54 @@ Write-says ns cs ss r bs b =
 -- SIZE (document 02, P1): 5; else how many bytes a book with these counts of cards has
 unfoldable pub Size-says : (counts : List ℕ) → Reply ℕ → Type 0
 Size-says cs r = r ≡ reply-with 0 (cond (ltb 65536 (bytes-needed cs)) 5 0) (bytes-needed cs)
+
+-- LEVELS ON THE CABLE (document 02, P6): 0 is 0, 2 is -1, 364 is 364, 728 is -364; each way undoes the other; the field's negative of a symbol is
+-- the negated number; and a card each of whose samples falls to its digit's level is received as that card
+pub record Cable-says : Type 0 where
+  pub examples : map signed-of (0 ∷ 2 ∷ 364 ∷ 728 ∷ []) ≡ pos 0 ∷ negsuc 0 ∷ pos 364 ∷ negsuc 363 ∷ []
+  pub back : (v : ℕ) → v ≤ 728 → symbol-of (signed-of v) ≡ v
+  pub forth : (n : ℤ) → outside n ≡ false → signed-of (symbol-of n) ≡ n
+  pub negative : (v : ℕ) → signed-of (minus 0 v) ≡ negℤ (signed-of v)
+  pub arrives : (c : List ℕ) → is-card c ≡ true → (s : List ℤ) → Sent c s → received s ≡ c
+
+-- ONE SYMBOL: 3 above 728; else its signed number
+unfoldable pub Signed-says : (v : ℕ) → Reply ℤ → Type 0
+Signed-says v r = r ≡ reply-with (pos 0) (cond (ltb 728 v) 3 0) (signed-of v)
+
+-- ONE NUMBER: 3 outside -364 to 364; else the symbol whose signed number it is
+unfoldable pub Symbol-as : (out : Bool) → (n : ℤ) → Reply ℕ → Type 0
+Symbol-as true n r = r ≡ refused-with 0 3
+Symbol-as false n r = (v : ℕ) × (v ≤ 728) × (signed-of v ≡ n) × (r ≡ replied v)
+
+unfoldable pub Symbol-says : (n : ℤ) → Reply ℕ → Type 0
+Symbol-says n r = Symbol-as (outside n) n r
+
+-- SIX OF THEM: 2 for a length, 3 for a symbol or a number
+unfoldable pub six-refusal : (long room : ℕ) → (bad : Bool) → ℕ
+six-refusal l w b = cond (not (eqb l 6 && eqb w 6)) 2 (cond b 3 0)
+
+-- LEVELS: the signed numbers of a card
+unfoldable pub Levels-says : (c : List ℕ) → (r : ℕ) → (ns ns-now : List ℤ) → Type 0
+Levels-says c r ns m =
+    let x = six-refusal (length c) (length ns) (any-above 728 c) in
+    (r ≡ x) × (m ≡ cond (eqb x 0) (map signed-of c) ns)
+
+-- SYMBOLS: the card with these signed numbers
+unfoldable pub Symbols-as : (refusal : ℕ) → (ns : List ℤ) → (r : ℕ) → (c c-now : List ℕ) → Type 0
+Symbols-as zero ns r c d = (r ≡ 0) × (is-card d ≡ true) × (map signed-of d ≡ ns)
+Symbols-as (suc x) ns r c d = (r ≡ suc x) × (d ≡ c)
+
+unfoldable pub Symbols-says : (ns : List ℤ) → (r : ℕ) → (c c-now : List ℕ) → Type 0
+Symbols-says ns r c d = Symbols-as (six-refusal (length ns) (length c) (any outside ns)) ns r c d
+
+-- RECEIVE: 2 unless there are 36 samples and room for 6 symbols; else the card to whose digits' levels the samples fall
+unfoldable pub Receive-as : (refusal : ℕ) → (s : List ℤ) → (r : ℕ) → (c c-now : List ℕ) → Type 0
+Receive-as zero s r c d = (r ≡ 0) × (is-card d ≡ true) × Sent d s
+Receive-as (suc x) s r c d = (r ≡ suc x) × (d ≡ c)
+
+unfoldable pub Receive-says : (s : List ℤ) → (r : ℕ) → (c c-now : List ℕ) → Type 0
+Receive-says s r c d = Receive-as (cond (not (eqb (length s) 36 && eqb (length c) 6)) 2 0) s r c d
+
+-- MEND FROM THE CABLE: whoever receives a sent card and mends what was received gets what Mend says of the card itself
+unfoldable pub Mends-sent : (k : ℕ) → (s : List ℤ) → (room : ℕ) → Reply Weight → (w w-now m m-now : List ℕ) → Type 0
+Mends-sent k s room r w v m n = (c : List ℕ) → is-card c ≡ true → Sent c s → room ≡ 6 → Mend-says k c r w v m n

@@ -3,9 +3,11 @@
 pub mod Demands
 -- What is said leaves nothing free
 pub mod Settled
--- What is said holds: of the code, Press, Weigh, Test and Mend, also with dead lines; of Open, Pull, Read, Length, Worn, Write and Size
+-- What is said holds: of the code, Press, Weigh, Test and Mend, also with dead lines; of Open, Pull, Read, Length, Worn, Write and
+-- Size; of levels on the cable
 pub mod CardDemands
 pub mod BookDemands
+pub mod CableDemands
 -- What holds of written books, stated and proved
 pub mod WrittenBooks
 -- The cases that are to be theorems

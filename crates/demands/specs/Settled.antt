@@ -1,21 +1,27 @@
--- What is said leaves nothing free: two answers of which a statement holds are the same, and so are the lists left behind. Press, Weigh, Open, Write
--- and Size are equations already; each other statement is its `-as` at a number x, those of Length and Worn at a test.
--- Main: test-settled, mend-settled, mend-dead-settled, pull-settled, read-settled, said-once, length-settled, worn-settled.
+-- What is said leaves nothing free: two answers of which a statement holds are the same, and so are the lists left behind. Press, Weigh, Open, Write,
+-- Size, Signed and Levels are equations already; each other statement is its `-as` at a number x, those of Length, Worn and Symbol at a test.
+-- Main: test-settled, mend-settled, mend-dead-settled, pull-settled, read-settled, said-once, length-settled, worn-settled, symbol-settled,
+-- symbols-settled, receive-settled.
 use mathlib.Core.Path.{_≡_, refl, sym, ap, _∙_}
 use mathlib.Core.Logic.{inl, inr}
 use mathlib.Core.Bool.{Bool, true, false}
-use mathlib.Core.List.{List}
+use mathlib.Core.List.{List, map}
 use mathlib.Core.Option.{Option, none, some}
 use Prim.Native.Nat.{ℕ, zero, suc, _≤_, _<_}
 use native.Mathlib.Decide.{ℕ-discrete}
 use native.Mathlib.Omega.{arith}
+use lib.IntN.{ℤ}
 use Rattle.refusal.specs.Replies.{Reply, replied, refused-with}
 use Rattle.rank.specs.declared.Weight.{Weight}
+use Rattle.levels.specs.Levels.{symbol-of}
+use Rattle.levels.specs.Balanced.{symbol-signed, levels-back}
+use Rattle.levels.specs.Received.{sent-once}
 use Rattle.book.specs.Layout.{card}
 use Rattle.book.specs.Reading.{Card-value, no-value}
 use Rattle.demands.specs.Demands.{Test-as, Mend-as, Mended, Hopeless, Mend-dead-as, Mended-dead, Hopeless-dead, Pull-as, Pulled, Missing}
 use Rattle.demands.specs.Demands.{reading-refusal, Read-as, Read-card, Read-strike, Read-says}
 use Rattle.demands.specs.Demands.{Delays, no-cards, one-more, Hole, Length-sum, Length-hole, Length-as, Worn-card, Worn-as}
+use Rattle.demands.specs.Demands.{Symbol-as, Symbols-as, Receive-as}
 
 module _ (k : ℕ) (c t : List ℕ) (r s : ℕ) (y z : List ℕ) where
   pub test-settled : (x : ℕ) → Test-as x k c r t y → Test-as x k c s t z → (r ≡ s) × (y ≡ z)
@@ -114,3 +120,24 @@ module _ (bs : List ℕ) where
   unfolding Worn-as
   worn-settled r s true a b = let same = card-settled (r .value) (s .value) (a .1) (b .1) in λ i. record { refusal = (a .0 ∙ sym (b .0)) i; value = same i }
   worn-settled r s false a b = cc
+
+-- ON THE CABLE
+module _ (n : ℤ) (r s : Reply ℕ) where
+  pub symbol-settled : (out : Bool) → Symbol-as out n r → Symbol-as out n s → r ≡ s
+  unfolding Symbol-as
+  symbol-settled true a b = cc
+  symbol-settled false (v, h, p, e) (w, l, q, f) =
+      let same : v ≡ w = sym (symbol-signed v h) ∙ ap symbol-of (p ∙ sym q) ∙ symbol-signed w l in
+      cc
+
+module _ (c : List ℕ) (r s : ℕ) (d e : List ℕ) where
+  pub symbols-settled : (ns : List ℤ) (x : ℕ) → Symbols-as x ns r c d → Symbols-as x ns s c e → (r ≡ s) × (d ≡ e)
+  unfolding Symbols-as
+  symbols-settled ns zero (a, p, h) (b, q, l) =
+      (a ∙ sym b, sym (levels-back d p) ∙ ap (map symbol-of) (h ∙ sym l) ∙ levels-back e q)
+  symbols-settled ns (suc x) a b = ((cc), (cc))
+
+  pub receive-settled : (samples : List ℤ) (x : ℕ) → Receive-as x samples r c d → Receive-as x samples s c e → (r ≡ s) × (d ≡ e)
+  unfolding Receive-as
+  receive-settled samples zero (a, p, h) (b, q, l) = (a ∙ sym b, sent-once samples d e p q h l)
+  receive-settled samples (suc x) a b = ((cc), (cc))

@@ -2,14 +2,18 @@
 // operation's own contract: weaken that one, and this crate is no longer proved.
 ghost use mathlib.Core.List.{List};
 ghost use Prim.Native.Nat.{ℕ};
+ghost use lib.ListN.{length};
 ghost use Rattle.refusal.specs.Replies.{outcome, reply};
 ghost use Rattle.rank.specs.Weight.{weight-reply};
+ghost use Rattle.cable.specs.Operations.{signed-reply};
 ghost use Rattle.book.specs.Reading.{read-reply};
 ghost use Rattle.book.specs.Bodies.{worn-reply};
 ghost use Rattle.demands.specs.Demands.{Press-says, Weigh-says, Test-says, Mend-says, Mend-dead-says, Mends-alike};
 ghost use Rattle.demands.specs.Demands.{Open-says, Pull-says, Read-says, Length-says, Worn-says, Write-says, Size-says};
+ghost use Rattle.demands.specs.Demands.{Signed-says, Symbol-says, Levels-says, Symbols-says, Receive-says, Mends-sent};
 use book::Reading;
 use book::Worn;
+use cable::SignedAnswer;
 use rank::Weighed;
 use refusal::Answer;
 use refusal::Outcome;
@@ -118,4 +122,53 @@ pub fn book_size(counts: &[u16]) -> Answer
     ensures { λ r. ⌜ Size-says (now (counts .entry)) (reply r) ⌝ }
 {
     writer::book_size(counts)
+}
+
+// The answer is the signed number of the symbol (document 02, P6).
+pub fn signed(symbol: u16) -> SignedAnswer
+    ensures { λ r. ⌜ Signed-says symbol (signed-reply r) ⌝ }
+{
+    cable::signed(symbol)
+}
+
+// The answer is the symbol whose signed number it is (document 02, P6).
+pub fn symbol(number: i16) -> Answer
+    ensures { λ r. ⌜ Symbol-says number (reply r) ⌝ }
+{
+    cable::symbol(number)
+}
+
+// The list is filled with the signed numbers of the card (document 02, P6).
+pub fn levels(card: &[u16], numbers: &mut [i16]) -> Outcome
+    ensures { λ r. ⌜ Levels-says (now (card .entry)) (outcome r) (now (numbers .entry)) (now (numbers .exit)) ⌝ }
+{
+    cable::levels(card, numbers)
+}
+
+// The list is filled with the card that has these signed numbers (document 02, P6).
+pub fn symbols(numbers: &[i16], card: &mut [u16]) -> Outcome
+    ensures { λ r. ⌜ Symbols-says (now (numbers .entry)) (outcome r) (now (card .entry)) (now (card .exit)) ⌝ }
+{
+    cable::symbols(numbers, card)
+}
+
+// The list is filled with the card to whose digits' levels the samples fall (document 02, P6).
+pub fn receive(samples: &[i16], card: &mut [u16]) -> Outcome
+    ensures { λ r. ⌜ Receive-says (now (samples .entry)) (outcome r) (now (card .entry)) (now (card .exit)) ⌝ }
+{
+    cable::receive(samples, card)
+}
+
+// Mend of a card that was received answers and fills in what it does of the card that was sent (document 02, P6).
+pub fn decode_received(
+    k: u32,
+    samples: &[i16],
+    card: &mut [u16],
+    word: &mut [u16],
+    message: &mut [u16],
+) -> Weighed
+    ensures { λ r. ⌜ Mends-sent k (now (samples .entry)) (length (now (card .entry))) (weight-reply r) (now (word .entry)) (now (word .exit)) (now (message .entry)) (now (message .exit)) ⌝ }
+{
+    cable::receive(samples, card);
+    decoder::decode(k, card, word, message)
 }

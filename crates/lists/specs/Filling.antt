@@ -1,6 +1,6 @@
 -- Filling a list from another, entry by entry.
--- Main: filled-next, filled-end, filled-all, filled-rest.
-use mathlib.Core.Path.{_≡_, sym, ap, _∙_}
+-- Main: filled-with, filled-next, filled-end, filled-all, filled-rest.
+use mathlib.Core.Path.{_≡_, refl, sym, ap, ap₂, _∙_}
 use mathlib.Core.List.{List, [], _∷_, _++_}
 use Prim.Native.Nat.{ℕ, _+_, _≤_, _<_}
 use native.Mathlib.Numerals.{add-one}
@@ -8,14 +8,19 @@ use native.Mathlib.Omega.{arith}
 use lib.ListN.{length, take, drop, set, getD, length-drop}
 use lib.Seq.{take-suc, take-suc-set, take-all}
 
+-- one more entry x, which is the other list's (d stands where it has none)
+pub filled-with : {A : Type 0} (d x : A) (to from : List A) (i : ℕ) → i < length to → i < length from → x ≡ getD from i d → take i to ≡ take i from
+    → take (i + 1) (set to i x) ≡ take (i + 1) from
+filled-with {A} d x to from i h k s e =
+    rw (add-one i) (take-suc-set to i x h ∙ ap₂ (λ (ys : List A) (y : A). ys ++ (y ∷ [])) e s ∙ sym (take-suc from i d k))
+
 -- one more entry taken over
 pub filled-next : (to from : List ℕ) (i : ℕ) → i < length to → i < length from → take i to ≡ take i from
     → take (i + 1) (set to i (getD from i 0)) ≡ take (i + 1) from
-filled-next to from i h k e =
-    rw (add-one i) (take-suc-set to i (getD from i 0) h ∙ ap (λ (x : List ℕ). x ++ (getD from i 0 ∷ [])) e ∙ sym (take-suc from i 0 k))
+filled-next to from i h k e = filled-with 0 _ to from i h k refl e
 
 -- all of them
-pub filled-end : (to from : List ℕ) (i n : ℕ) → length to ≡ n → n ≤ i → i ≤ n → take i to ≡ take i from → to ≡ take n from
+pub filled-end : {A : Type 0} (to from : List A) (i n : ℕ) → length to ≡ n → n ≤ i → i ≤ n → take i to ≡ take i from → to ≡ take n from
 filled-end to from i n l a b e = let h : i ≡ n = omega arith in sym (take-all n to (omega arith)) ∙ (rw h at e)
 
 -- all of the other list

@@ -1,25 +1,21 @@
--- Looking for a number above a bound: one turn of the loop, and its ends.
--- Main: above-next, above-here, above-end.
+-- Looking for an entry that passes a test: one turn of the loop, and its ends.
+-- Main: any-next, any-here, any-end.
 use mathlib.Core.Path.{_≡_, refl}
-use mathlib.Core.Bool.{true, false}
+use mathlib.Core.Bool.{Bool, true, false}
 use mathlib.Core.List.{List}
 use Prim.Native.Nat.{ℕ, _+_, _≤_, _<_}
 use native.Mathlib.Numerals.{add-one}
 use lib.ListN.{length, getD, drop, drop-of-length-le}
 use lib.Seq.{drop-cons}
-use borrow.Author.Tests.{lt-ltb, le-ltb}
-use Rattle.algebra.specs.Tests.{any-above}
+use Rattle.algebra.specs.Tests.{any}
 
--- THE NUMBERS of a list, those above h
-module _ (h i : ℕ) (c : List ℕ) where
-  pub above-next : i < length c → getD c i 0 ≤ h → any-above h (drop i c) ≡ any-above h (drop (i + 1) c)
-  unfolding any-above
-  above-next l e = rw (add-one, drop-cons c i 0 l, le-ltb h (getD c i 0) e) refl
+-- entry i of a list, d standing where there is none
+module _ {A : Type 0} (p : A → Bool) (d : A) (i : ℕ) (l : List A) where
+  pub any-next : i < length l → p (getD l i d) ≡ false → any p (drop i l) ≡ any p (drop (i + 1) l)
+  any-next h e = rw (add-one, drop-cons l i d h, e) refl
 
-  pub above-here : i < length c → h < getD c i 0 → any-above h (drop i c) ≡ true
-  unfolding any-above
-  above-here l e = rw (drop-cons c i 0 l, lt-ltb h (getD c i 0) e) refl
+  pub any-here : i < length l → p (getD l i d) ≡ true → any p (drop i l) ≡ true
+  any-here h e = rw (drop-cons l i d h, e) refl
 
-  pub above-end : length c ≤ i → any-above h (drop i c) ≡ false
-  unfolding any-above
-  above-end l = rw (drop-of-length-le c l) refl
+  pub any-end : length l ≤ i → any p (drop i l) ≡ false
+  any-end h = rw (drop-of-length-le l h) refl

@@ -10,21 +10,15 @@ use native.Mathlib.Nat.{le-antisymm}
 use native.Mathlib.Omega.{arith}
 use lib.ListN.{length, getD, List·getD-eq-default}
 use lib.Seq.{ext-getD}
-use Rattle.algebra.specs.Field.{number-of, digits, add, scale}
-use Rattle.algebra.specs.Lists.{table, length-table, at-table, All, all-at, all-each}
+use Rattle.algebra.specs.Field.{number-of, add, scale}
+use Rattle.algebra.specs.Lists.{table, length-table, at-table, All, all-at, all-each, all-table}
 use Rattle.algebra.specs.Tests.{passed, passes}
-use Rattle.algebra.specs.Digits.{digits-number, digit, digit-add, digit-scale, digit-zero, digit-rest, digit-below, by-digits}
+use Rattle.algebra.specs.Digits.{digit, number-below, digit-number, digit-add, digit-scale, digit-zero, digit-rest, digit-below, by-digits}
 use Rattle.algebra.specs.Combinations.{combine, combine-none, combine-same, combine-add, combine-scale, Span, span-zero}
 use Rattle.algebra.specs.Linear.{combination, basis, in-basis}
 use Rattle.rank.specs.Definitions.{at, rank, is-card}
 use Rattle.rank.specs.Clearing.{digit-past}
 use Rattle.rank.specs.Echelon.{rank-echelon, rank-least}
-
--- what holds of each value holds of each in a table
-all-table : (P : ℕ → Type 0) (n : ℕ) (f : ℕ → ℕ) → ((i : ℕ) → P (f i)) → All P (table n f)
-unfolding table
-all-table P zero f h = tt
-all-table P (suc n) f h = (h 0, all-table P n _ (λ i. h (suc i)))
 
 -- TRANSPOSED: digit j of symbol i is digit i of symbol j
 abbrev pub Transposed : (c d : List ℕ) → Type 0
@@ -38,12 +32,8 @@ unfoldable pub transpose : List ℕ → List ℕ
 transpose c = table 6 (digit-row c)
 
 row-below : (c : List ℕ) (i : ℕ) → digit-row c i < 729
-unfolding digit-row number-of table
-row-below c i = omega arith
-
-row-digits : (c : List ℕ) (i : ℕ) → digits (digit-row c i) ≡ table 6 (λ j. digit (at c j) i)
-unfolding digits digit-row table
-row-digits c i = digits-number (table 6 (λ j. digit (at c j) i)) (all-table (λ d. d < 3) 6 _ (λ j. digit-below (at c j) i))
+unfolding digit-row
+row-below c i = number-below (λ j. digit (at c j) i)
 
 pub transpose-is : (c : List ℕ) → length c ≡ 6 → Transposed c (transpose c)
 unfolding transpose digit-row at
@@ -56,8 +46,8 @@ transpose-is c e i j = go (decLt i 6) (decLt j 6)
     go (yes p) (no n) =
         digit-past _ j (omega arith) ∙ sym (ap (λ (v : ℕ). digit v i) (List·getD-eq-default c 0 {n = j} (omega arith)) ∙ digit-zero i)
     go (yes p) (yes q) =
-        ap (λ (v : ℕ). digit v j) (at-table 6 (digit-row c) i p) ∙ ap (λ (ds : List ℕ). getD ds j 0) (row-digits c i)
-        ∙ at-table 6 (λ k. digit (at c k) i) j q
+        ap (λ (v : ℕ). digit v j) (at-table 6 (digit-row c) i p)
+        ∙ digit-number (λ k. digit (at c k) i) (λ k. digit-below (at c k) i) j q
 
 -- SPANNED: if the symbols of d are combinations of t symbols, those of c are too
 swap : (C : ℕ → ℕ → ℕ) (j : ℕ) (ws qs : List ℕ)

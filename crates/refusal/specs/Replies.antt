@@ -1,5 +1,5 @@
 -- What answers say in numbers. Every promise about an answer goes through these definitions.
--- Main: number, number-not-zero, outcome, Reply, reply, reply-with, refused-reply, value-reply, reply-refused, reply-value, unless.
+-- Main: number, number-not-zero, outcome, Reply, reply, reply-with, refused-reply, value-reply, reply-refused, reply-value, unless, Gives.
 use mathlib.Core.Path.{_≡_, refl, ap, sym, _∙_}
 use mathlib.Core.Bool.{false, cond, true≢false}
 use Prim.Native.Nat.{ℕ}
@@ -111,9 +111,22 @@ pub unless-done : {A : Type 0} (n : ℕ) (new old now : A) → n ≡ 0 → now �
 unfolding unless
 unless-done n new old now e w = rw (e, w)
 
+-- a call that answers r, whose refusal is n, 0 if there is none, and that gives v: what it was lent held `old`, and holds `now`
+pub record Gives {A : Type 0} (n : ℕ) (v old : A) (r : ℕ) (now : A) : Type 0 where
+  pub answers : r ≡ n
+  pub lent-is : now ≡ unless n v old
+
 -- what an outcome says of the refusal
 pub refused-number : (n : ℕ) (r : Outcome) (x : Refusal) → outcome r ≡ n → r ≡ outcomes.Refused x → (number x ≡ n) × (eqb n 0 ≡ false)
 refused-number n r x e q = let s : number x ≡ n = rw q at e in (s, rw (← s) (number-not-zero x))
 
 pub no-refusal : (n : ℕ) (r : Outcome) → outcome r ≡ n → r ≡ outcomes.Done → n ≡ 0
 no-refusal n r e q = sym (rw q at e)
+
+-- and of what is given: a list that tests refused stays as it was, and one that was filled is given
+module _ {A : Type 0} (n : ℕ) (v old : A) (r : Outcome) (e : outcome r ≡ n) where
+  pub gives-refused : (x : Refusal) → r ≡ outcomes.Refused x → Gives n v old (number x) old
+  gives-refused x q = let (s, t) = refused-number n r x e q in record { answers = s; lent-is = unless-refused n v old t }
+
+  pub gives-done : r ≡ outcomes.Done → (now : A) → now ≡ v → Gives n v old 0 now
+  gives-done q now h = let s = no-refusal n r e q in record { answers = sym s; lent-is = unless-done n v old now s h }

@@ -7,7 +7,7 @@ pub enum Refusal {
     Dimension,
     // 2: a list has the wrong length.
     Length,
-    // 3: a symbol above 728, a value above 26, or a mask above 63.
+    // 3: a symbol above 728, a value above 26, a mask above 63, or a signed number not -364 to 364.
     Range,
     // 4: no codeword lies within the radius.
     Undecodable,

@@ -10,7 +10,7 @@ returns : tie.Need-returns
 returns c =
     let d = c .before .before .before .before .before .before .decode .ensures in
     let g = given (λ (w : Weight). w .rank) no-weight _ _ _ _ _ _ (d .answers) (c .give-rank .ensures .0) (c .give-rank .ensures .1) in
-    record { answers = g .answers; word-is = d .word-is; message-is = d .message-is; distance-is = g .number-is }
+    record { answers = g .answers; word-is = d .word-is; message-is = d .message-is; distance-is = g .lent-is }
 
 pub lucetcoral-decode-spec : {M : Type 1} → statement M
 lucetcoral-decode-spec =

@@ -9,7 +9,7 @@ returns : tie.Need-returns
 returns c =
     let d = c .before .before .before .before .before .before .decode-dead .ensures in
     let g = given (λ (x : ℕ). x) 0 _ _ _ _ _ _ (d .answers) (c .give .ensures .0) (c .give .ensures .1) in
-    record { answers = g .answers; word-is = d .word-is; message-is = d .message-is; rank-is = g .number-is }
+    record { answers = g .answers; word-is = d .word-is; message-is = d .message-is; rank-is = g .lent-is }
 
 pub lucetcoral-decode-dead-spec : {M : Type 1} → statement M
 lucetcoral-decode-dead-spec =

@@ -9,7 +9,7 @@ returns : tie.Need-returns
 returns c =
     let w = c .before .before .before .before .write-listing .ensures in
     let g = given (λ (x : ℕ). x) 0 _ _ _ _ _ _ (w .0) (c .give-size .ensures .0) (c .give-size .ensures .1) in
-    record { answers = g .answers; text-is = w .1; written-is = g .number-is }
+    record { answers = g .answers; text-is = w .1; written-is = g .lent-is }
 
 pub lucetcoral-list-spec : {M : Type 1} → statement M
 lucetcoral-list-spec = tie.close (tie.spec (λ c κs. search needs) (λ c κs. search needs) (λ c. search needs) returns)

@@ -1,11 +1,13 @@
 -- `lists::any_above` meets its contract. The loop: what is left to look at decides.
 use mathlib.Core.Path.{_≡_, refl, sym, _∙_}
 use Prim.Native.Nat.{_-_}
+use lib.Dec.{ltb}
 use lib.ListN.{length, drop}
 use denote.Ref.{now}
 use borrow.Author.Needs.{needs}
+use borrow.Author.Tests.{lt-ltb, le-ltb}
 use Rattle.algebra.specs.Tests.{any-above}
-use Rattle.lists.specs.Scanning.{above-next, above-here, above-end}
+use Rattle.lists.specs.Scanning.{any-next, any-here, any-end}
 use Rattle.lists.proofs.any_above.Statement.{statement}
 use Rattle.lists.proofs.any_above.Tie as tie
 
@@ -19,22 +21,25 @@ loop-holds : tie.Need-loop-holds Inv-loop μ-loop
 loop-holds c = refl
 
 returns : tie.Need-returns Inv-loop μ-loop
+unfolding any-above
 returns c =
     let s = c .before .before .before in
     let a = s .before .args in
-    sym (s .loop .inv ∙ above-here (a .most) (s .loop .i) (now (a .list)) (c .before .before .loop-test .taken) (c .if1 .taken))
+    sym (s .loop .inv ∙ any-here (ltb (a .most)) 0 (s .loop .i) (now (a .list)) (c .before .before .loop-test .taken) (lt-ltb _ _ (c .if1 .taken)))
 
 loop-again : tie.Need-loop-again Inv-loop μ-loop
+unfolding any-above
 loop-again c =
     let s = c .before .before .before in
     let a = s .before .args in
-    s .loop .inv ∙ above-next (a .most) (s .loop .i) (now (a .list)) (c .before .before .loop-test .taken) (c .if1 .left)
+    s .loop .inv ∙ any-next (ltb (a .most)) 0 (s .loop .i) (now (a .list)) (c .before .before .loop-test .taken) (le-ltb _ _ (c .if1 .left))
 
 returns-2 : tie.Need-returns-2 Inv-loop μ-loop
+unfolding any-above
 returns-2 c =
     let s = c .before in
     let a = s .before .args in
-    sym (s .loop .inv ∙ above-end (a .most) (s .loop .i) (now (a .list)) (c .loop-test .left))
+    sym (s .loop .inv ∙ any-end (ltb (a .most)) 0 (s .loop .i) (now (a .list)) (c .loop-test .left))
 
 pub any-above-spec : {M : Type 1} → statement M
 any-above-spec =
