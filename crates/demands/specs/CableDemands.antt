@@ -14,7 +14,7 @@ use Rattle.refusal.specs.Replies.{reply, reply-with, unless, unless-done, Gives
 use Rattle.rank.specs.declared.Weighed.{Weighed}
 use Rattle.rank.specs.Weight.{weight-reply}
 use Rattle.levels.specs.Levels.{signed-of, outside, symbol-of, received}
-use Rattle.levels.specs.Balanced.{examples, symbol-signed, signed-symbol, symbol-range, signed-negative, symbols-back, symbols-card}
+use Rattle.levels.specs.Balanced.{examples, symbol-signed, signed-symbol, symbol-range, signed-negative, levels-inside, symbols-back, symbols-card}
 use Rattle.levels.specs.Received.{received-is-card, received-sent, received-card}
 use Rattle.codec.specs.Operations.{tests}
 use Rattle.codec.specs.Refusals.{lists-passed}
@@ -28,6 +28,7 @@ use Rattle.demands.specs.CardDemands.{mend-says}
 pub cable-says : Cable-says
 cable-says = record {
   examples = examples;
+  inside = levels-inside;
   back = symbol-signed;
   forth = signed-symbol;
   negative = signed-negative;

@@ -254,10 +254,12 @@ Write-says ns cs ss r bs b =
 unfoldable pub Size-says : (counts : List ℕ) → Reply ℕ → Type 0
 Size-says cs r = r ≡ reply-with 0 (cond (ltb 65536 (bytes-needed cs)) 5 0) (bytes-needed cs)
 
--- LEVELS ON THE CABLE (document 02, P6): 0 is 0, 2 is -1, 364 is 364, 728 is -364; each way undoes the other; the field's negative of a symbol is
--- the negated number; and a card each of whose samples falls to its digit's level is received as that card
+-- LEVELS ON THE CABLE (document 02, P6): 0 is 0, 2 is -1, 364 is 364, 728 is -364; signed numbers are -364 to 364, so that they are taken back; each
+-- way undoes the other; the field's negative of a symbol is the negated number; and a card each of whose samples falls to its digit's level is
+-- received as that card
 pub record Cable-says : Type 0 where
   pub examples : map signed-of (0 ∷ 2 ∷ 364 ∷ 728 ∷ []) ≡ pos 0 ∷ negsuc 0 ∷ pos 364 ∷ negsuc 363 ∷ []
+  pub inside : (c : List ℕ) → any outside (map signed-of c) ≡ false
   pub back : (v : ℕ) → v ≤ 728 → symbol-of (signed-of v) ≡ v
   pub forth : (n : ℤ) → outside n ≡ false → signed-of (symbol-of n) ≡ n
   pub negative : (v : ℕ) → signed-of (minus 0 v) ≡ negℤ (signed-of v)

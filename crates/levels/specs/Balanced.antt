@@ -1,4 +1,5 @@
--- Symbols and signed numbers: both ways undo each other, and the field's negative of a symbol is the negated number. Each is one computed test.
+-- Symbols and signed numbers: both ways undo each other, and the field's negative of a symbol is the negated number. These are computed tests of
+-- all 729 symbols, or of all 729 numbers, those from 0 on and those below.
 -- Main: symbol-signed, signed-symbol, signed-inside, signed-negative, examples; of lists levels-back, levels-inside, symbols-back, symbols-card.
 use mathlib.Core.Path.{_≡_, refl, sym, ap, _∙_}
 use mathlib.Core.Bool.{Bool, true, false, not, true≢false}
