@@ -1,4 +1,4 @@
-/* Lucetcoral's C interface: cards, levels on the cable, tune books, their listing and their writing, in numbers and lists only.
+/* Lucetcoral's C interface: cards, levels on the cable, tune books, their wear, their listing and their writing, in numbers and lists only.
    docs/SPECIFICATION.md says what each operation does; the sections cited below are its sections.
 
    ANSWERS. Each function returns LUCETCORAL_DONE, 0, or the number of a refusal. If it is done, what it answers is in the lists and numbers that
@@ -36,7 +36,7 @@ extern "C" {
 /* The version of this interface. As long as MAJOR is 0, MINOR is raised by every change of what a call takes, answers or refuses and of every
    name or number below, PATCH by all other changes. The archive holds no version of its own. */
 #define LUCETCORAL_VERSION_MAJOR 0
-#define LUCETCORAL_VERSION_MINOR 6
+#define LUCETCORAL_VERSION_MINOR 7
 #define LUCETCORAL_VERSION_PATCH 0
 
 /* What a function returns (section 7). */
@@ -53,7 +53,8 @@ enum lucetcoral_refusal {
     LUCETCORAL_NO_SUCH_TUNE = 8,  /* the book has no tune of that number, or at that place */
     LUCETCORAL_NO_SUCH_CARD = 9,  /* the card number is 0, or past the last */
     LUCETCORAL_STRIKE_FIELD = 10, /* a bell or a force is above 26, or a delay above 728 */
-    LUCETCORAL_DEAD_LINES = 11    /* more lines are dead than 6 - k */
+    LUCETCORAL_DEAD_LINES = 11,   /* more lines are dead than 6 - k */
+    LUCETCORAL_WIDTH = 12         /* the width of a run is 0, above 64, or above the count of cards */
 };
 
 /* The code (sections 1 to 4). */
@@ -79,6 +80,7 @@ enum lucetcoral_refusal {
 #define LUCETCORAL_CARD_BYTES 12  /* bytes of a card in a body */
 #define LUCETCORAL_TUNE_NUMBER_MIN 1
 #define LUCETCORAL_TUNE_NUMBER_MAX 9999
+#define LUCETCORAL_WIDTH_MAX 64   /* cards of a run */
 
 /* Strikes (section 6). */
 #define LUCETCORAL_STRIKE_K 2 /* the k of all cards in books */
@@ -141,6 +143,10 @@ uint32_t lucetcoral_total_delay(const uint8_t *body, size_t body_len, uint32_t *
 
 /* Worn (8.11): the lowest number of a card of a body that Read refuses or gives a damage of 1 or more; 0 exactly if there is none. 2. */
 uint32_t lucetcoral_damaged_card(const uint8_t *body, size_t body_len, uint32_t *card);
+
+/* Wear (8.23): the largest sum of wear over `width` cards in a row of a body, and the number of the first card at which a run with that sum begins. A
+   card wears by the rank of its damage, or by 3 if Read refuses it. 2, 12. */
+uint32_t lucetcoral_wear(const uint8_t *body, size_t body_len, uint32_t width, uint32_t *sum, uint32_t *first);
 
 /* Listing (8.12): the text that lists a book, as the program list_book prints it ("book refused N" for a book that Open refuses), at the start of
    `text`. The rest of `text` stays as it was. `written` is the length of the listing; no 0 is written at its end. 2 if text_len is below

@@ -1,4 +1,5 @@
-//! Tune books: their contents, their bodies of strike cards, and the listing.
+//! Tune books: their contents, their bodies of strike cards, the listing, and
+//! the report of wear.
 
 use crate::code::{decode, Card};
 use crate::refusal::Refusal;
@@ -14,6 +15,15 @@ pub const LONGEST_BODY: usize = 65_532;
 /// longer.
 pub const LISTING_MAX: usize = 131_072;
 
+/// A run of cards whose wear is asked for has at most this width.
+const WIDEST_RUN: usize = 64;
+
+/// The width of the runs that are reported of a book.
+const REPORTED_WIDTH: usize = 8;
+
+/// What a refused card weighs: more than any damage that is mended.
+const REFUSED_WEIGHT: u32 = 3;
+
 pub(crate) const CARD_BYTES: usize = 12;
 
 #[derive(Clone, Copy, PartialEq, Eq, Debug)]
@@ -23,6 +33,14 @@ pub struct Strike {
     pub delay: u32,
     /// The rank of the card's damage.
     pub damage: u32,
+}
+
+/// Some cards in a row: the sum of their weights, and the number of the first,
+/// counted from 1.
+#[derive(Clone, Copy, PartialEq, Eq, Debug)]
+pub struct Run {
+    pub sum: u32,
+    pub first: u32,
 }
 
 /// One entry of the contents.
@@ -85,6 +103,31 @@ pub fn damaged_card(body: &[u8]) -> Result<Option<u32>, Refusal> {
         .min())
 }
 
+/// The heaviest of all runs of so many cards, and the first of those that weigh
+/// the same. A card weighs the rank of its damage, or 3 if `read_card` refuses
+/// it.
+pub fn wear(body: &[u8], width: u32) -> Result<Run, Refusal> {
+    let cards = cards(body)?;
+    let width = width as usize;
+    if width == 0 || width > WIDEST_RUN || width > cards.len() {
+        return Err(Refusal::Width);
+    }
+    let weights: Vec<u32> = cards.iter().map(card_weight).collect();
+    let sums = weights.windows(width).map(|run| run.iter().sum());
+    let sums: Vec<u32> = sums.collect();
+    let largest = sums.iter().max().expect("a run");
+    let place = sums.iter().position(|sum| sum == largest);
+    Ok(Run {
+        sum: *largest,
+        first: 1 + place.expect("its place") as u32,
+    })
+}
+
+/// What a card weighs in a run.
+fn card_weight(card: &Card) -> u32 {
+    strike(card).map_or(REFUSED_WEIGHT, |strike| strike.damage)
+}
+
 /// The listing of a book, for a lent text of `text_len` bytes.
 pub fn list(book: &[u8], text_len: usize) -> Result<String, Refusal> {
     match text_len < LISTING_MAX {
@@ -95,23 +138,36 @@ pub fn list(book: &[u8], text_len: usize) -> Result<String, Refusal> {
 
 /// What the listing program prints for a book.
 pub fn listing(book: &[u8]) -> String {
-    let entries = match contents(book) {
-        Ok(entries) => entries,
-        Err(refusal) => return format!("book refused {}\n", refusal.number()),
-    };
-    let mut text = String::new();
-    for entry in entries {
-        let body = &book[entry.body()];
-        writeln!(text, "tune {} {}", entry.tune, entry.cards).unwrap();
-        for (number, card) in (1..).zip(cards(body).expect("a tune's body")) {
-            list_card(&mut text, number, &card);
-        }
-        match total_delay(body) {
-            Ok(ticks) => writeln!(text, "ticks {ticks}"),
-            Err(_) => writeln!(text, "ticks unknown"),
-        }
-        .unwrap();
+    tune_by_tune(book, list_tune)
+}
+
+/// What the program that reports wear prints for a book.
+pub fn wear_report(book: &[u8]) -> String {
+    tune_by_tune(book, report_tune)
+}
+
+/// The texts of all tunes in the order of the contents, each made of its entry
+/// and its body; or the line that says that the book is refused.
+fn tune_by_tune(book: &[u8], text: impl Fn(&Entry, &[u8]) -> String) -> String {
+    match contents(book) {
+        Ok(entries) => entries
+            .iter()
+            .map(|entry| text(entry, &book[entry.body()]))
+            .collect(),
+        Err(refusal) => format!("book refused {}\n", refusal.number()),
     }
+}
+
+fn list_tune(entry: &Entry, body: &[u8]) -> String {
+    let mut text = format!("tune {} {}\n", entry.tune, entry.cards);
+    for (number, card) in (1..).zip(cards(body).expect("a tune's body")) {
+        list_card(&mut text, number, &card);
+    }
+    match total_delay(body) {
+        Ok(ticks) => writeln!(text, "ticks {ticks}"),
+        Err(_) => writeln!(text, "ticks unknown"),
+    }
+    .unwrap();
     text
 }
 
@@ -125,6 +181,14 @@ fn list_card(text: &mut String, number: u32, card: &Card) {
         Err(refusal) => writeln!(text, "{number} refused {}", refusal.number()),
     }
     .unwrap();
+}
+
+fn report_tune(entry: &Entry, body: &[u8]) -> String {
+    if entry.cards < REPORTED_WIDTH {
+        return format!("{} short\n", entry.tune);
+    }
+    let run = wear(body, REPORTED_WIDTH as u32).expect("a tune with enough cards");
+    format!("{} {} {}\n", entry.tune, run.sum, run.first)
 }
 
 fn big_endian(bytes: &[u8]) -> usize {

@@ -3,12 +3,12 @@
 //!
 //! Both can be printed as one line of decimal numbers, a negative one with a
 //! minus sign before its digits. A call's line is the number of the operation
-//! (1 to 18, in the order of `Call`), then its numbers if it has any (k, masks,
+//! (1 to 19, in the order of `Call`), then its numbers if it has any (k, masks,
 //! a tune's or a card's number, a place of the contents, a symbol or the number
-//! of one), then its lists, each as its length and its values. An outcome's
-//! line is the status (0 or the refusal), then the numbers given back if the
-//! status is 0, then the final values of the lists that the call lends to be
-//! filled, without their lengths.
+//! of one, a width), then its lists, each as its length and its values. An
+//! outcome's line is the status (0 or the refusal), then the numbers given back
+//! if the status is 0, then the final values of the lists that the call lends to
+//! be filled, without their lengths.
 
 use crate::lent::{reading, Lent, UNTOUCHED};
 use crate::library::Library;
@@ -99,6 +99,10 @@ pub enum Call {
         samples: Vec<i16>,
         card: Vec<u16>,
     },
+    Wear {
+        width: u32,
+        body: Vec<u8>,
+    },
 }
 
 #[derive(Clone, PartialEq, Eq, Debug)]
@@ -176,6 +180,7 @@ impl Call {
             Call::Levels { card, levels } => (16, vec![], vec![wide(card), wide(levels)]),
             Call::Symbols { levels, card } => (17, vec![], vec![wide(levels), wide(card)]),
             Call::Receive { samples, card } => (18, vec![], vec![wide(samples), wide(card)]),
+            Call::Wear { width, body } => (19, wide(&[*width]), vec![wide(body)]),
         }
     }
 
@@ -267,6 +272,10 @@ impl Call {
             Call::Receive { samples, card } => {
                 let card = cable::receive(samples, card.len())?;
                 (vec![], vec![wide(&card)])
+            }
+            Call::Wear { width, body } => {
+                let run = book::wear(body, *width)?;
+                (wide(&[run.sum, run.first]), vec![])
             }
         })
     }
@@ -420,6 +429,11 @@ impl Call {
                 let mut card = Lent::new(card);
                 let status = reading(self, samples, |s| L::receive(s, card.list()));
                 outcome(status, &[], vec![wide(&card.values(self))])
+            }
+            Call::Wear { width, body } => {
+                let (mut sum, mut first) = (UNTOUCHED, UNTOUCHED);
+                let status = reading(self, body, |b| L::wear(b, *width, &mut sum, &mut first));
+                outcome(status, &[sum, first], vec![])
             }
         }
     }

@@ -65,6 +65,13 @@ mod raw {
         ) -> u32;
         pub fn lucetcoral_total_delay(body: *const u8, body_len: usize, ticks: *mut u32) -> u32;
         pub fn lucetcoral_damaged_card(body: *const u8, body_len: usize, card: *mut u32) -> u32;
+        pub fn lucetcoral_wear(
+            body: *const u8,
+            body_len: usize,
+            width: u32,
+            sum: *mut u32,
+            first: *mut u32,
+        ) -> u32;
         pub fn lucetcoral_tune_at(
             book: *const u8,
             book_len: usize,
@@ -200,6 +207,10 @@ impl Library for Proved {
 
     fn damaged_card(body: &[u8], card: &mut u32) -> u32 {
         unsafe { raw::lucetcoral_damaged_card(body.as_ptr(), body.len(), card) }
+    }
+
+    fn wear(body: &[u8], width: u32, sum: &mut u32, first: &mut u32) -> u32 {
+        unsafe { raw::lucetcoral_wear(body.as_ptr(), body.len(), width, sum, first) }
     }
 
     fn tune_at(book: &[u8], place: u32, number: &mut u32, cards: &mut u32) -> u32 {

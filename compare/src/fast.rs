@@ -587,13 +587,45 @@ fn cards(body: &[u8]) -> Result<&[[u8; 12]], Refusal> {
     }
 }
 
-/// The bell, the force, the delay and the damage.
-fn strike(bytes: &[u8; 12]) -> Result<[u32; 4], Refusal> {
+fn card_of_bytes(bytes: &[u8; 12]) -> Result<Card, Refusal> {
     let symbols: [u16; 6] =
         std::array::from_fn(|i| u16::from_be_bytes([bytes[2 * i], bytes[2 * i + 1]]));
-    let decoded = decode(2, card(&symbols)?)?;
+    card(&symbols)
+}
+
+/// The bell, the force, the delay and the damage.
+fn strike(bytes: &[u8; 12]) -> Result<[u32; 4], Refusal> {
+    let decoded = decode(2, card_of_bytes(bytes)?)?;
     let [bell, force, high, low, ..] = decoded.message.map(u32::from);
     Ok([bell, force, 27 * high + low, decoded.distance])
+}
+
+/// What a card weighs in a run: the rank of its damage, or 3 if it is refused.
+/// Its strike is not needed.
+fn card_weight(bytes: &[u8; 12]) -> u32 {
+    let card = card_of_bytes(bytes).ok();
+    let found = card.and_then(|card| search(&State::start(card), 2, 0, &[], radius(2)));
+    found.map_or(3, |(_, rank)| rank)
+}
+
+/// The largest sum over so many cards in a row, and the number of the first
+/// card at which it begins. Each sum is the one before it, with the card that
+/// enters and without the one that leaves.
+fn wear(body: &[[u8; 12]], width: usize) -> Result<[u32; 2], Refusal> {
+    if !(1..=64).contains(&width) || width > body.len() {
+        return Err(Refusal::Width);
+    }
+    let weights: Vec<u32> = body.iter().map(card_weight).collect();
+    let mut sum = weights[..width].iter().sum();
+    let mut heaviest = [sum, 1];
+    let moves = weights[width..].iter().zip(&weights);
+    for (first, (enters, leaves)) in (2..).zip(moves) {
+        sum = sum + enters - leaves;
+        if sum > heaviest[0] {
+            heaviest = [sum, first];
+        }
+    }
+    Ok(heaviest)
 }
 
 /// A space and the digits of each number below 1,000, with zeros behind them.
@@ -911,6 +943,14 @@ impl Library for Fast {
         status(|| {
             let place = cards(body)?.iter().position(is_damaged);
             *card = place.map_or(0, |place| place as u32 + 1);
+            Ok(())
+        })
+    }
+
+    #[inline(never)]
+    fn wear(body: &[u8], width: u32, sum: &mut u32, first: &mut u32) -> u32 {
+        status(|| {
+            [*sum, *first] = wear(cards(body)?, width as usize)?;
             Ok(())
         })
     }

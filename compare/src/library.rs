@@ -49,6 +49,10 @@ pub trait Library {
     /// "Worn"; the card is 0 if none is damaged.
     fn damaged_card(body: &[u8], card: &mut u32) -> u32;
 
+    /// The largest sum of weights over so many cards in a row, and the number of
+    /// the first card of the first such run.
+    fn wear(body: &[u8], width: u32, sum: &mut u32, first: &mut u32) -> u32;
+
     /// The tune at a place of the contents, counted from 0.
     fn tune_at(book: &[u8], place: u32, number: &mut u32, cards: &mut u32) -> u32;
 

@@ -25,6 +25,8 @@ pub enum Refusal {
     StrikeField = 10,
     /// More lines are dead than the code can do without.
     DeadLines = 11,
+    /// A width is 0, over 64, or over the count of cards.
+    Width = 12,
 }
 
 impl Refusal {

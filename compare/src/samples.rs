@@ -11,6 +11,15 @@ use crate::writer::{Tunes, LARGEST_FIELDS};
 
 pub use crate::writer::{body, book};
 
+/// The cards of the paper's book: two without damage, one with damage of rank
+/// 1, and one that is refused.
+pub const PAPER_CARDS: [code::Card; 4] = [
+    [1, 3, 9, 27, 81, 243],
+    [3, 279, 233, 650, 423, 163],
+    [2, 3, 9, 27, 81, 243],
+    [729, 3, 9, 27, 81, 243],
+];
+
 /// A message and a card made of its word and an error.
 pub struct Sent {
     pub message: Vec<u16>,

@@ -5,7 +5,7 @@ use crate::cable;
 use crate::call::Call;
 use crate::code::Card;
 use crate::random::Random;
-use crate::samples::{self, junk, signed_junk, Masks};
+use crate::samples::{self, junk, signed_junk, Masks, PAPER_CARDS};
 use crate::writer::{book_size, Tunes};
 
 /// The seed of the calls that are stored with the program.
@@ -40,6 +40,10 @@ pub fn calls(seed: u64) -> Vec<Call> {
     calls.extend(level_refusals(random));
     calls.extend(threshold_calls());
     calls.extend(receive_calls(random));
+    calls.extend(wear_cases());
+    calls.extend(wear_refusals());
+    calls.extend(wear_calls(random));
+    calls.extend(wide_runs());
     calls
 }
 
@@ -165,15 +169,16 @@ fn receive(samples: &[i16]) -> Call {
     }
 }
 
+fn wear(body: &[u8], width: u32) -> Call {
+    Call::Wear {
+        width,
+        body: body.to_vec(),
+    }
+}
+
 /// The paper's cases, with and without a star, and its book.
 fn paper_cases() -> Vec<Call> {
-    let cards = [
-        [1, 3, 9, 27, 81, 243],
-        [3, 279, 233, 650, 423, 163],
-        [2, 3, 9, 27, 81, 243],
-        [729, 3, 9, 27, 81, 243],
-    ];
-    let body = samples::body(&cards);
+    let body = samples::body(&PAPER_CARDS);
     let book = samples::book(&[(7, body.clone())]);
     let mut calls = vec![
         encode(1, &[1, 0]),
@@ -744,4 +749,107 @@ fn receive_calls(random: &mut Random) -> Vec<Call> {
         });
     }
     calls
+}
+
+/// A body of cards near the word of zeros, which are short as text: each with
+/// damage of rank 0, 1 or 2, or refused with 3 or 4.
+fn worn_body(kinds: &[usize]) -> Vec<u8> {
+    let cards = [
+        [0; 6],
+        [1, 0, 0, 0, 0, 0],
+        [1, 3, 0, 0, 0, 0],
+        [729, 0, 0, 0, 0, 0],
+        [1, 3, 9, 0, 0, 0],
+    ];
+    let picked: Vec<Card> = kinds.iter().map(|kind| cards[*kind]).collect();
+    samples::body(&picked)
+}
+
+/// So many cards without damage, but for some places with cards of a kind.
+fn worn_places(count: usize, worn: &[(usize, usize)]) -> Vec<u8> {
+    let mut kinds = vec![0; count];
+    for (place, kind) in worn {
+        kinds[*place] = *kind;
+    }
+    worn_body(&kinds)
+}
+
+/// The paper's body; runs at the beginning, at the end and in between; runs
+/// that weigh the same; and refused cards, which weigh more than others.
+fn wear_cases() -> Vec<Call> {
+    let paper = samples::body(&PAPER_CARDS);
+    let mut calls: Vec<Call> = (0..=5).map(|width| wear(&paper, width)).collect();
+    for (kinds, width) in [
+        (&[0][..], 1),
+        (&[3], 1),
+        (&[0, 0, 0], 2),
+        (&[0, 1, 2], 1),
+        (&[2, 1, 0], 1),
+        (&[2, 3], 1),
+        (&[2, 4], 1),
+        (&[3, 4], 1),
+        (&[4, 3], 2),
+        (&[1, 0, 1], 1),
+        (&[1, 0, 1], 2),
+        (&[0, 2, 1, 0, 3], 2),
+        (&[0, 2, 2, 0, 3], 2),
+        (&[0, 1, 4, 0, 2, 2], 2),
+        (&[1, 1, 1, 1, 1], 3),
+        (&[2, 2, 2, 3, 0, 3], 3),
+        (&[3, 4, 3, 4, 3, 4, 3, 4], 8),
+        (&[4, 0, 0, 0, 0, 0, 0, 2, 0], 8),
+        (&[1, 0, 0, 0, 0, 0, 0, 0, 2, 0], 8),
+        (&[1, 0, 0, 0, 0, 0, 0, 0, 0, 3], 8),
+        (&[2, 0, 0, 0, 0, 0, 0, 0, 0, 2], 8),
+    ] {
+        calls.push(wear(&worn_body(kinds), width));
+    }
+    calls
+}
+
+/// Widths out of range, and bytes that are no body, which are refused first.
+fn wear_refusals() -> Vec<Call> {
+    let mut calls = vec![];
+    for width in [0, 1, 8, 64, 65, u32::MAX] {
+        calls.push(wear(&[], width));
+    }
+    for width in [0, 2, 63, 64, 65, 257, 65_537, 1 << 31, u32::MAX] {
+        calls.push(wear(&worn_body(&[3]), width));
+    }
+    for (count, width) in [(7, 8), (8, 9)] {
+        calls.push(wear(&worn_places(count, &[]), width));
+    }
+    for len in [1, 11, 13] {
+        calls.extend([0, 1, 65, u32::MAX].map(|width| wear(&vec![0; len], width)));
+    }
+    calls
+}
+
+/// Random cards, of all kinds and of all words.
+fn wear_calls(random: &mut Random) -> Vec<Call> {
+    let mut calls = vec![];
+    for width in [1, 2, 3, 8] {
+        let kinds: Vec<usize> = (0..10).map(|_| *random.pick(&[0, 0, 1, 2, 3, 4])).collect();
+        calls.push(wear(&worn_body(&kinds), width));
+    }
+    for width in 1..=3 {
+        let damages = random.numbers(4, 4).into_iter().map(u32::from);
+        let cards: Vec<Card> = damages
+            .map(|damage| samples::sent(random, 2, damage).received)
+            .collect();
+        calls.push(wear(&samples::body(&cards), width));
+    }
+    calls
+}
+
+/// Widths about the largest: all cards, all but the first, and the last ones;
+/// the first of two runs that weigh the same; and one too many.
+fn wide_runs() -> Vec<Call> {
+    vec![
+        wear(&worn_places(64, &[(0, 1), (63, 2)]), 64),
+        wear(&worn_places(65, &[(0, 2), (64, 4)]), 64),
+        wear(&worn_places(65, &[(2, 1), (64, 1)]), 63),
+        wear(&worn_places(70, &[(0, 1), (2, 3), (68, 3), (69, 1)]), 64),
+        wear(&worn_places(65, &[(0, 1)]), 65),
+    ]
 }

@@ -1,8 +1,8 @@
-//! The programs `list_book`, `press_book` and `cases` as they were built: what
-//! they print, against the reference, and what comes of inputs and outputs
-//! that fail. All programs end with the status 0.
+//! The programs `list_book`, `wear_book`, `press_book` and `cases` as they were
+//! built: what they print, against the reference, and what comes of inputs and
+//! outputs that fail. All programs end with the status 0.
 
-use compare::book::{listing, LONGEST_BOOK};
+use compare::book::{listing, wear_report, LONGEST_BOOK};
 use compare::call::Call;
 use compare::code::Card;
 use compare::random::Random;
@@ -12,7 +12,7 @@ use compare::vectors::{self, STORED};
 use compare::writer::Tunes;
 use std::ffi::c_int;
 use std::fs::{self, File};
-use std::io::{self, PipeReader, Read, Write};
+use std::io::{self, PipeReader, PipeWriter, Read, Write};
 use std::os::fd::{AsRawFd, OwnedFd};
 use std::os::unix::net::UnixDatagram;
 use std::path::{Path, PathBuf};
@@ -27,6 +27,7 @@ extern "C" {
 
 // Linux's numbers.
 const F_SETFL: c_int = 4;
+const F_SETPIPE_SZ: c_int = 1031;
 const O_NONBLOCK: c_int = 0o4000;
 const SIGCONT: c_int = 18;
 const SIGSTOP: c_int = 19;
@@ -43,13 +44,35 @@ fn program(name: &str) -> PathBuf {
     let path = repository("target/bin").join(name);
     assert!(
         path.is_file(),
-        "no target/bin/{name}: run `rt check list_book press_book cases` in the repository first"
+        "no target/bin/{name}: run `rt check list_book wear_book press_book cases` in the \
+         repository first"
     );
     path
 }
 
-fn list_book() -> Command {
-    Command::new(program("list_book"))
+/// A program that reads a book and prints a text.
+struct Reader {
+    name: &'static str,
+    /// The text, by the reference.
+    text: fn(&[u8]) -> String,
+}
+
+const LIST_BOOK: Reader = Reader {
+    name: "list_book",
+    text: listing,
+};
+
+const WEAR_BOOK: Reader = Reader {
+    name: "wear_book",
+    text: wear_report,
+};
+
+const READERS: [Reader; 2] = [LIST_BOOK, WEAR_BOOK];
+
+impl Reader {
+    fn command(&self) -> Command {
+        Command::new(program(self.name))
+    }
 }
 
 fn press_book() -> Command {
@@ -90,6 +113,15 @@ fn piped(bytes: &[u8]) -> PipeReader {
     pipe(vec![bytes.to_vec()], Duration::ZERO)
 }
 
+/// A pipe that holds a page only, which is less than the programs can print.
+fn small_pipe() -> (PipeReader, PipeWriter) {
+    let (reader, writer) = io::pipe().expect("a pipe");
+    // Sound: it only changes how much an open pipe holds.
+    let size = unsafe { fcntl(writer.as_raw_fd(), F_SETPIPE_SZ, 4_096 as c_int) };
+    assert!(size > 0, "{}", io::Error::last_os_error());
+    (reader, writer)
+}
+
 fn set_nonblocking(file: &impl AsRawFd) {
     // Sound: it only sets a flag of an open file.
     let answer = unsafe { fcntl(file.as_raw_fd(), F_SETFL, O_NONBLOCK) };
@@ -128,13 +160,25 @@ fn assert_one_line(said: &[u8], beginning: &str) {
     );
 }
 
-/// Lists a book from a pipe, from a file, and from a file named as argument.
-fn check_listing(name: &str, book: &[u8]) {
-    let text = listing(book);
+/// Hands a book to each program that reads one, from a pipe, from a file, and
+/// from a file named as argument.
+fn check_book(name: &str, book: &[u8]) {
     let path = file(name, book);
-    expect_printed(list_book().stdin(piped(book)), &text);
-    expect_printed(list_book().stdin(open(&path)), &text);
-    expect_printed(list_book().arg(&path), &text);
+    for reader in READERS {
+        let text = (reader.text)(book);
+        expect_printed(reader.command().stdin(piped(book)), &text);
+        expect_printed(reader.command().stdin(open(&path)), &text);
+        expect_printed(reader.command().arg(&path), &text);
+    }
+}
+
+/// The same of a book that is refused, with this number.
+fn check_refused(name: &str, book: &[u8], refusal: u32) {
+    for reader in READERS {
+        let line = format!("book refused {refusal}\n");
+        assert_eq!((reader.text)(book), line, "{}", reader.name);
+    }
+    check_book(name, book);
 }
 
 /// Panics unless the program wrote and said what the reference does.
@@ -158,7 +202,8 @@ fn check_pressing(name: &str, text: &[u8]) -> Pressed {
     if pressed.err.is_empty() {
         let tunes = text::read(text).expect("a text without mistakes");
         let listing = samples::listing(&tunes);
-        expect_printed(list_book().stdin(piped(&pressed.out)), &listing);
+        let mut list_book = LIST_BOOK.command();
+        expect_printed(list_book.stdin(piped(&pressed.out)), &listing);
     }
     pressed
 }
@@ -211,7 +256,7 @@ fn examples() {
             .extension()
             .is_some_and(|extension| extension == "book")
         {
-            check_listing("examples.book", &fs::read(path).expect("a book"));
+            check_book("examples.book", &fs::read(path).expect("a book"));
             count += 1;
         }
     }
@@ -220,11 +265,18 @@ fn examples() {
 
 #[test]
 fn books() {
-    for counts in [&[1][..], &[4], &[1, 2, 3], &[30; 30], &[999, 1, 1_000]] {
-        check_listing("books.book", &mixed_book(counts));
+    for counts in [
+        &[1][..],
+        &[4],
+        &[1, 2, 3],
+        &[7, 8, 9],
+        &[30; 30],
+        &[999, 1, 1_000],
+    ] {
+        check_book("books.book", &mixed_book(counts));
     }
     // No tunes: nothing is printed.
-    check_listing("books.book", &[0, 0]);
+    check_book("books.book", &[0, 0]);
 }
 
 #[test]
@@ -247,8 +299,7 @@ fn refused_books() {
         (good[..good.len() - 1].to_vec(), 7),
     ];
     for (book, refusal) in books {
-        assert_eq!(listing(&book), format!("book refused {refusal}\n"));
-        check_listing("refused_books.book", &book);
+        check_refused("refused_books.book", &book, refusal);
     }
 }
 
@@ -257,15 +308,15 @@ fn refused_books() {
 fn large_books() {
     let largest = mixed_book(&[1, 5_457, 1]);
     assert_eq!(largest.len(), LONGEST_BOOK - 2);
-    check_listing("large_books.book", &largest);
+    check_book("large_books.book", &largest);
     for (len, refusal) in [(65_535, 7), (65_536, 7), (65_537, 5), (200_000, 5)] {
         let mut book = largest.clone();
         book.resize(len, 0);
-        assert_eq!(listing(&book), format!("book refused {refusal}\n"));
-        check_listing("large_books.book", &book);
+        check_refused("large_books.book", &book, refusal);
     }
-    check_listing("large_books.book", &widest_book(&[5_460]));
-    check_listing("large_books.book", &samples::longest_listing());
+    check_book("large_books.book", &widest_book(&[5_460]));
+    check_book("large_books.book", &mixed_book(&[8; 630]));
+    check_book("large_books.book", &samples::longest_listing());
 }
 
 /// A book that arrives in pieces, with pauses.
@@ -273,21 +324,26 @@ fn large_books() {
 fn slow_input() {
     let (small, large) = (mixed_book(&[3, 2]), samples::longest_listing());
     for (book, size) in [(&small, 1), (&small, 7), (&large, 4_000), (&large, 65_533)] {
-        let pieces = book.chunks(size).map(<[u8]>::to_vec).collect();
-        let input = pipe(pieces, milliseconds(2));
-        expect_printed(list_book().stdin(input), &listing(book));
+        for reader in READERS {
+            let pieces = book.chunks(size).map(<[u8]>::to_vec).collect();
+            let input = pipe(pieces, milliseconds(2));
+            expect_printed(reader.command().stdin(input), &(reader.text)(book));
+        }
     }
 }
 
 #[test]
 fn inputs_that_fail() {
     let folder = repository("examples");
-    expect_said(list_book().stdin(open(&folder)), CANNOT_READ);
-    expect_said(list_book().arg(&folder), CANNOT_READ);
-    expect_said(list_book().arg(repository("no/such.book")), CANNOT_OPEN);
-    expect_said(list_book().arg(""), CANNOT_OPEN);
+    let missing = repository("no/such.book");
     let closed = r#"exec "$0" <&-"#;
-    expect_said(sh(closed).arg(program("list_book")), CANNOT_READ);
+    for reader in READERS {
+        expect_said(reader.command().stdin(open(&folder)), CANNOT_READ);
+        expect_said(reader.command().arg(&folder), CANNOT_READ);
+        expect_said(reader.command().arg(&missing), CANNOT_OPEN);
+        expect_said(reader.command().arg(""), CANNOT_OPEN);
+        expect_said(sh(closed).arg(program(reader.name)), CANNOT_READ);
+    }
 }
 
 /// A read that fails after some bytes were read.
@@ -295,21 +351,25 @@ fn inputs_that_fail() {
 fn input_that_fails_late() {
     let book = fs::read(repository("examples/clean.book")).expect("an example");
     for len in [1, book.len() - 1, book.len()] {
-        let (reader, mut writer) = io::pipe().expect("a pipe");
-        set_nonblocking(&reader);
-        writer.write_all(&book[..len]).expect("a pipe with room");
-        expect_said(list_book().stdin(reader), CANNOT_READ);
-        drop(writer);
+        for reader in READERS {
+            let (input, mut writer) = io::pipe().expect("a pipe");
+            set_nonblocking(&input);
+            writer.write_all(&book[..len]).expect("a pipe with room");
+            expect_said(reader.command().stdin(input), CANNOT_READ);
+            drop(writer);
+        }
     }
 }
 
 #[test]
 fn arguments() {
     let example = repository("examples/clean.book");
-    let usage = "usage: list_book [FILE]\n";
-    for more in 1..=3 {
-        let paths = vec![&example; 1 + more];
-        expect_said(list_book().args(paths), usage);
+    for reader in READERS {
+        let usage = format!("usage: {} [FILE]\n", reader.name);
+        for more in 1..=3 {
+            let paths = vec![&example; 1 + more];
+            expect_said(reader.command().args(paths), &usage);
+        }
     }
 }
 
@@ -323,16 +383,24 @@ fn sh(script: &str) -> Command {
 fn outputs_that_fail() {
     for book in [samples::longest_listing(), vec![0, 1], vec![]] {
         let path = file("outputs_that_fail.book", &book);
-        let full = File::options().write(true).open("/dev/full");
-        let full = full.expect("an output that is always full");
-        expect_said(list_book().arg(&path).stdout(full), CANNOT_WRITE);
-        let closed = r#"exec "$0" <"$1" >&-"#;
-        let closed_named = r#"exec "$0" "$1" >&-"#;
-        for script in [closed, closed_named] {
-            let arguments = [&program("list_book"), &path];
-            expect_said(sh(script).args(arguments), CANNOT_WRITE);
+        for reader in READERS {
+            expect_unwritten(&reader, &path);
         }
         assert!(fs::read(&path).unwrap() == book, "the book was changed");
+    }
+}
+
+/// Panics unless the program says that it could not write, whether the output
+/// is full or closed.
+fn expect_unwritten(reader: &Reader, path: &Path) {
+    let full = File::options().write(true).open("/dev/full");
+    let full = full.expect("an output that is always full");
+    expect_said(reader.command().arg(path).stdout(full), CANNOT_WRITE);
+    let closed = r#"exec "$0" <"$1" >&-"#;
+    let closed_named = r#"exec "$0" "$1" >&-"#;
+    for script in [closed, closed_named] {
+        let arguments = [&program(reader.name), path];
+        expect_said(sh(script).args(arguments), CANNOT_WRITE);
     }
 }
 
@@ -340,20 +408,23 @@ fn outputs_that_fail() {
 /// what there is room for, or fails.
 #[test]
 fn nonblocking_output() {
-    let small = mixed_book(&[100]);
-    assert_eq!(from_nonblocking_pipe(&small), listing(&small).len());
-    let large = samples::longest_listing();
-    let all = listing(&large).len();
-    // A pipe holds a page at least.
-    assert!((4_096..=all).contains(&from_nonblocking_pipe(&large)));
+    let (small, large) = (mixed_book(&[100]), samples::longest_listing());
+    for reader in READERS {
+        let all = |book: &[u8]| (reader.text)(book).len();
+        assert_eq!(from_nonblocking_pipe(&reader, &small), all(&small));
+        // The pipe holds a page.
+        let arrived = from_nonblocking_pipe(&reader, &large);
+        assert!((4_096..=all(&large)).contains(&arrived));
+    }
 }
 
-/// How much of the listing arrives. Panics unless it is a beginning, and the
+/// How much of the text arrives. Panics unless it is a beginning, and the
 /// program says that it could not write exactly if there is more.
-fn from_nonblocking_pipe(book: &[u8]) -> usize {
-    let (mut reader, writer) = io::pipe().expect("a pipe");
+fn from_nonblocking_pipe(reader: &Reader, book: &[u8]) -> usize {
+    let (mut output, writer) = small_pipe();
     set_nonblocking(&writer);
-    let child = list_book()
+    let child = reader
+        .command()
         .stdin(piped(book))
         .stdout(writer)
         .stderr(Stdio::piped())
@@ -363,16 +434,16 @@ fn from_nonblocking_pipe(book: &[u8]) -> usize {
     let mut piece = [0; 10_000];
     loop {
         sleep(milliseconds(5));
-        match reader.read(&mut piece).expect("a pipe") {
+        match output.read(&mut piece).expect("a pipe") {
             0 => break,
             len => arrived.extend(&piece[..len]),
         }
     }
     let output = child.wait_with_output().expect("a program that ends");
     assert_eq!(output.status.code(), Some(0));
-    let text = listing(book);
+    let text = (reader.text)(book);
     let is_beginning = text.as_bytes().starts_with(&arrived);
-    assert!(is_beginning, "{} bytes, not of the listing", arrived.len());
+    assert!(is_beginning, "{} bytes, not of the text", arrived.len());
     match arrived.len() < text.len() {
         true => assert_one_line(&output.stderr, CANNOT_WRITE),
         false => assert!(output.stderr.is_empty()),
@@ -384,9 +455,16 @@ fn from_nonblocking_pipe(book: &[u8]) -> usize {
 /// only a part when it goes on.
 #[test]
 fn interrupted_output() {
+    for reader in READERS {
+        interrupt(&reader);
+    }
+}
+
+fn interrupt(reader: &Reader) {
     let book = samples::longest_listing();
-    let (mut reader, writer) = io::pipe().expect("a pipe");
-    let child = list_book()
+    let (mut output, writer) = small_pipe();
+    let child = reader
+        .command()
         .stdin(piped(&book))
         .stdout(writer)
         .stderr(Stdio::piped())
@@ -401,20 +479,23 @@ fn interrupted_output() {
     }
     sleep(milliseconds(20));
     let mut arrived = String::new();
-    reader.read_to_string(&mut arrived).expect("a text");
+    output.read_to_string(&mut arrived).expect("a text");
     let output = child.wait_with_output().expect("a program that ends");
     assert_eq!(String::from_utf8_lossy(&output.stderr), "");
-    assert!(arrived == listing(&book), "{} bytes", arrived.len());
+    assert!(arrived == (reader.text)(&book), "{} bytes", arrived.len());
 }
 
 /// What goes into a socket of messages tells one write from another.
 #[test]
 fn one_write() {
     for book in [mixed_book(&[3, 2]), samples::longest_listing(), vec![0]] {
-        let writes = writes(list_book().stdin(piped(&book)));
-        let lengths: Vec<usize> = writes.iter().map(Vec::len).collect();
-        assert_eq!(lengths, [listing(&book).len()]);
-        assert!(writes[0] == listing(&book).as_bytes());
+        for reader in READERS {
+            let text = (reader.text)(&book);
+            let writes = writes(reader.command().stdin(piped(&book)));
+            let lengths: Vec<usize> = writes.iter().map(Vec::len).collect();
+            assert_eq!(lengths, [text.len()]);
+            assert!(writes[0] == text.as_bytes());
+        }
     }
 }
 
@@ -716,8 +797,8 @@ fn slow_text() {
     }
 }
 
-/// The same for `press_book` as for `list_book`: inputs, arguments and outputs
-/// that fail.
+/// The same for `press_book` as for the programs that read a book: inputs,
+/// arguments and outputs that fail.
 #[test]
 fn pressing_that_fails() {
     let folder = repository("examples");
@@ -807,4 +888,10 @@ fn other_calls() {
         body: body(random, &cards, 10),
     };
     check_calls(&(0..100).map(call).collect::<Vec<Call>>());
+    // About as many cards as the program takes.
+    let call = |width| Call::Wear {
+        width,
+        body: body(random, &cards, 340),
+    };
+    check_calls(&[0, 1, 2, 8, 63, 64, 65].map(call));
 }

@@ -10,7 +10,7 @@ use compare::field::{of_small, small_number, Element};
 use compare::random::Random;
 use compare::rank::{rank, square, symbols, Square};
 use compare::refusal::Refusal;
-use compare::samples::{self, Masks};
+use compare::samples::{self, Masks, PAPER_CARDS};
 use compare::text::{self, press, LONGEST_TEXT};
 use compare::writer::{book_size, write_book, Tunes};
 use std::collections::HashSet;
@@ -114,13 +114,7 @@ fn order_of_refusals() {
 
 #[test]
 fn listing_case() {
-    let cards = [
-        [1, 3, 9, 27, 81, 243],
-        [3, 279, 233, 650, 423, 163],
-        [2, 3, 9, 27, 81, 243],
-        [729, 3, 9, 27, 81, 243],
-    ];
-    let bytes = samples::book(&[(7, samples::body(&cards))]);
+    let bytes = samples::book(&[(7, samples::body(&PAPER_CARDS))]);
     assert_eq!(bytes[..10], [0, 1, 0, 7, 0, 0, 0, 10, 0, 4]);
     let text = "tune 7 4\n1 1 0 0 0\n2 0 0 1 0\n3 1 0 0 1\n4 refused 3\nticks unknown\n";
     assert_eq!(book::listing(&bytes), text);
@@ -171,6 +165,81 @@ fn hole_case() {
     assert_eq!(length(&[far, word]), Err(Refusal::Undecodable));
     let body = samples::body(&[outside, word]);
     assert_eq!(book::total_delay(&body[..23]), Err(Refusal::Length));
+}
+
+/// The sum of the heaviest run, and its first card.
+fn heaviest(body: &[u8], width: u32) -> Result<[u32; 2], Refusal> {
+    book::wear(body, width).map(|run| [run.sum, run.first])
+}
+
+/// The cards of the paper's book weigh 0, 0, 1 and 3.
+#[test]
+fn wear_case() {
+    let body = samples::body(&PAPER_CARDS);
+    assert_eq!(heaviest(&body, 1), Ok([3, 4]));
+    assert_eq!(heaviest(&body, 2), Ok([4, 3]));
+    assert_eq!(heaviest(&body, 3), Ok([4, 2]));
+    assert_eq!(heaviest(&body, 4), Ok([4, 1]));
+    for width in [0, 5, 64, 65, u32::MAX] {
+        assert_eq!(heaviest(&body, width), Err(Refusal::Width));
+        assert_eq!(heaviest(&[], width), Err(Refusal::Width));
+        assert_eq!(heaviest(&body[..47], width), Err(Refusal::Length));
+    }
+    assert_eq!(heaviest(&[], 1), Err(Refusal::Width));
+    assert_eq!(heaviest(&body[..47], 1), Err(Refusal::Length));
+    // Of runs that weigh the same, the first.
+    assert_eq!(heaviest(&body[..24], 1), Ok([0, 1]));
+    let twice = [&body[..], &body].concat();
+    assert_eq!(heaviest(&twice, 1), Ok([3, 4]));
+    assert_eq!(heaviest(&twice, 2), Ok([4, 3]));
+    assert_eq!(heaviest(&twice, 6), Ok([8, 3]));
+}
+
+/// What is refused weighs 3, for both reasons, and rank 2 less.
+#[test]
+fn weights_of_cards() {
+    let [two, far, outside] = [[1, 3, 0, 0, 0, 0], [1, 3, 9, 0, 0, 0], [729; 6]];
+    let body = samples::body(&[two, far, outside, two]);
+    assert_eq!(heaviest(&body, 1), Ok([3, 2]));
+    assert_eq!(heaviest(&body, 2), Ok([6, 2]));
+    assert_eq!(heaviest(&body, 3), Ok([8, 1]));
+    assert_eq!(heaviest(&body, 4), Ok([10, 1]));
+    assert_eq!(heaviest(&body[12..], 1), Ok([3, 1]));
+    assert_eq!(heaviest(&body[24..], 1), Ok([3, 1]));
+    assert_eq!(heaviest(&body[36..], 1), Ok([2, 1]));
+}
+
+#[test]
+fn widest_runs() {
+    let mut body = vec![0; 65_532];
+    assert_eq!(heaviest(&body, 64), Ok([0, 1]));
+    // A symbol out of range in the last card.
+    body[65_530] = 255;
+    assert_eq!(heaviest(&body, 64), Ok([3, 5_461 - 63]));
+    assert_eq!(heaviest(&body, 65), Err(Refusal::Width));
+    assert_eq!(heaviest(&vec![0; 65_544], 64), Err(Refusal::Length));
+    assert_eq!(heaviest(&vec![0; 65_544], 65), Err(Refusal::Length));
+    assert_eq!(heaviest(&[0; 12 * 64], 64), Ok([0, 1]));
+    assert_eq!(heaviest(&[0; 12 * 63], 64), Err(Refusal::Width));
+}
+
+#[test]
+fn wear_report_case() {
+    let four = samples::body(&PAPER_CARDS);
+    let eight = [&four[..], &four].concat();
+    let ten = [&eight[..], &four[24..]].concat();
+    let book = samples::book(&[
+        (7, four),
+        (8, eight[12..].to_vec()),
+        (300, eight),
+        (9_999, ten),
+    ]);
+    let text = "7 short\n8 short\n300 8 1\n9999 12 3\n";
+    assert_eq!(book::wear_report(&book), text);
+    assert_eq!(book::wear_report(&[0, 0]), "");
+    assert_eq!(book::wear_report(&[0]), "book refused 5\n");
+    assert_eq!(book::wear_report(&vec![0; 65_537]), "book refused 5\n");
+    assert_eq!(book::wear_report(&[0, 0, 0]), "book refused 7\n");
 }
 
 /// Values 2 and 3 are 27·m2 + m3, not the other way round.

@@ -11,6 +11,9 @@
 //! one tune of 5,460 cards, or where the damage is `0 tunes`, 3,276 tunes of
 //! one card. `book size` asks for the size of a book of 3,276 tunes.
 //!
+//! A call of `wear` is of the body of such a book with one tune. Its damage is
+//! the width, and the damage of the cards.
+//!
 //! The damage of `decode_dead` is the number of dead rows, that of dead
 //! columns, and the rank of the damage in live lines. The dead lines of each
 //! card are others, and filled at random. For each k and each number of dead
@@ -80,6 +83,7 @@ fn main() {
     decode_rows();
     decode_dead_rows();
     read_book_rows();
+    wear_rows();
     listing_rows();
     process_rows();
     write_book_rows();
@@ -190,6 +194,24 @@ fn read_book_rows() {
             || read_book::<Proved>(&book),
             || read_book::<Fast>(&book),
         );
+    }
+}
+
+fn wear_rows() {
+    for damage in damages(2) {
+        for width in [1, 8, 64] {
+            let names = ["wear", "2", &format!("{width} {}", damage.name())];
+            if !is_wanted(names) {
+                continue;
+            }
+            let body = full_body(damage);
+            row(
+                names,
+                1,
+                || wear::<Proved>(&body, width),
+                || wear::<Fast>(&body, width),
+            );
+        }
     }
 }
 
@@ -353,10 +375,7 @@ impl Book {
 
     fn bytes(self) -> Vec<u8> {
         match self {
-            Book::Full(damage) => {
-                let body = samples::body(&cards(2, damage, FULL_BOOK));
-                samples::book(&[(1, body)])
-            }
+            Book::Full(damage) => samples::book(&[(1, full_body(damage))]),
             Book::MostTunes => {
                 let cards = cards(2, Damage::Rank(0), MOST_TUNES);
                 let bodies = cards.into_iter().map(|card| samples::body(&[card]));
@@ -459,6 +478,11 @@ fn cards(k: u32, damage: Damage, count: usize) -> Vec<Card> {
     (0..count).map(card).collect()
 }
 
+/// The body of a book with one tune and as many cards as there can be.
+fn full_body(damage: Damage) -> Vec<u8> {
+    samples::body(&cards(2, damage, FULL_BOOK))
+}
+
 /// Cards of any symbols.
 fn random_cards() -> Vec<Card> {
     let random = &mut Random::new(1);
@@ -557,6 +581,12 @@ fn read_book<L: Library>(book: &[u8]) -> u64 {
     let mut ticks = 0;
     sum += u64::from(L::total_delay(body, &mut ticks));
     sum + u64::from(ticks)
+}
+
+fn wear<L: Library>(body: &[u8], width: u32) -> u64 {
+    let (mut sum, mut first) = (0, 0);
+    assert_eq!(L::wear(body, width, &mut sum, &mut first), 0);
+    u64::from(sum) + u64::from(first)
 }
 
 /// Lists a book; gives back the length of the listing.

@@ -11,6 +11,7 @@ use compare::samples::{self, junk, Sent};
 
 pub mod cable;
 pub mod dead;
+pub mod wear;
 pub mod writing;
 
 /// Values of k that are refused. Some are right in their low 8 or 16 bits.
@@ -419,6 +420,10 @@ fn check_body<L: Library>(body: Vec<u8>) {
         let body = body.clone();
         Call::ReadCard { number, body }.check::<L>();
     }
+    for width in [0, 1, 2, count, count + 1, u32::MAX] {
+        let body = body.clone();
+        Call::Wear { width, body }.check::<L>();
+    }
     Call::TotalDelay { body: body.clone() }.check::<L>();
     Call::DamagedCard { body }.check::<L>();
 }
@@ -471,12 +476,12 @@ fn kinds(random: &mut Random) -> [(Card, Result<u32, u32>); 5] {
     ]
 }
 
-/// The number or the refusal is known: the reference answers with it, and so
-/// does the implementation.
-fn expect_known<L: Library>(call: Call, known: Result<u32, u32>) {
+/// The numbers or the refusal are known: the reference answers with them, and
+/// so does the implementation.
+fn expect_known<L: Library>(call: Call, known: Result<Vec<u32>, u32>) {
     let known = Outcome {
-        status: known.err().unwrap_or(0),
-        numbers: known.into_iter().map(i64::from).collect(),
+        status: known.as_ref().err().map_or(0, |refusal| *refusal),
+        numbers: wide(&known.unwrap_or_default()),
         lists: vec![],
     };
     assert_eq!(call.expected(), known, "{call:?}");
@@ -494,13 +499,13 @@ pub fn kinds_in_order<L: Library>() {
         let body = samples::body(&places.map(|kind| kinds[kind].0));
         let damaged = places.iter().position(|kind| *kind > 0);
         let damaged = damaged.map_or(0, |place| place as u32 + 1);
-        expect_known::<L>(Call::DamagedCard { body: body.clone() }, Ok(damaged));
+        expect_known::<L>(Call::DamagedCard { body: body.clone() }, Ok(vec![damaged]));
         let refused = places.iter().find(|kind| **kind > 2);
         let length = match refused {
             Some(kind) => kinds[*kind].1,
             None => Ok(places.iter().flat_map(|kind| kinds[*kind].1).sum()),
         };
-        expect_known::<L>(Call::TotalDelay { body }, length);
+        expect_known::<L>(Call::TotalDelay { body }, length.map(|ticks| vec![ticks]));
     }
 }
 
@@ -517,6 +522,11 @@ pub fn body_faults<L: Library>() {
                 let number = 1 + place as u32 / 12;
                 Call::ReadCard {
                     number,
+                    body: body.clone(),
+                }
+                .check::<L>();
+                Call::Wear {
+                    width: number,
                     body: body.clone(),
                 }
                 .check::<L>();
@@ -832,6 +842,41 @@ macro_rules! suite {
         #[test]
         fn large_bodies() {
             suite::large_bodies::<$library>();
+        }
+
+        #[test]
+        fn wear_all_widths() {
+            suite::wear::all_widths::<$library>();
+        }
+
+        #[test]
+        fn wear_known_weights() {
+            suite::wear::known_weights::<$library>();
+        }
+
+        #[test]
+        fn wear_one_card() {
+            suite::wear::one_card::<$library>();
+        }
+
+        #[test]
+        fn wear_equal_cards() {
+            suite::wear::equal_cards::<$library>();
+        }
+
+        #[test]
+        fn wear_equal_runs() {
+            suite::wear::equal_runs::<$library>();
+        }
+
+        #[test]
+        fn wear_wrong_lengths() {
+            suite::wear::wrong_lengths::<$library>();
+        }
+
+        #[test]
+        fn wear_large_bodies() {
+            suite::wear::large_bodies::<$library>();
         }
 
         #[test]

@@ -1,5 +1,5 @@
 -- The first number of a range that passes a test.
--- Main: first-from, None-in, First, search-first, search-none, none-start, none-next.
+-- Main: first-from, or-zero, None-in, First, search-first, search-none, none-start, none-next.
 use mathlib.Core.Path.{_≡_, refl, sym, ap, _∙_}
 use mathlib.Core.Bool.{Bool, true, false, cond, true≢false}
 use mathlib.Core.Logic.{_↔_}
@@ -12,6 +12,11 @@ use native.Mathlib.Omega.{arith}
 unfoldable pub first-from : (left n : ℕ) → (ℕ → Bool) → Option ℕ
 first-from zero n p = none
 first-from (suc k) n p = cond (p n) (some n) (first-from k (suc n) p)
+
+-- as a number, 0 where there is none
+abbrev pub or-zero : Option ℕ → ℕ
+or-zero none = 0
+or-zero (some n) = n
 
 module _ (p : ℕ → Bool) where
   -- no number from a on and below b passes

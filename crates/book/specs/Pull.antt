@@ -1,5 +1,5 @@
 -- What Pull refuses and gives back (document 01: Pull).
--- Main: pull-refusal, place-at, pulled, pulled-from.
+-- Main: entry-of, pull-refusal, pulled, pulled-from.
 use mathlib.Core.Bool.{Bool, cond}
 use mathlib.Core.List.{List, []}
 use mathlib.Core.Option.{Option, none, some}
@@ -23,11 +23,6 @@ entry-of bs t = first-from (tunes bs) 0 (bears bs t)
 abbrev pub missing : Option ℕ → ℕ
 missing none = number NoSuchTune
 missing (some e) = 0
-
--- the place of the entry in the contents
-abbrev pub place-at : Option ℕ → ℕ
-place-at none = 0
-place-at (some e) = e
 
 -- the part of the entry, or nothing
 abbrev pub part-at : List ℕ → Option ℕ → List ℕ

@@ -9,11 +9,12 @@ use native.Mathlib.Decide.{ℕ-discrete}
 use native.Mathlib.Omega.{arith}
 use lib.ListN.{length}
 use borrow.Author.Tests.{eqb-true, eq-eqb, ne-eqb}
+use Rattle.algebra.specs.Search.{or-zero}
 use Rattle.refusal.specs.Replies.{number}
 use Rattle.refusal.specs.declared.Refusal.the-variants.{NoSuchTune}
 use Rattle.book.specs.Layout.{tunes, tune-number, offset, part-of, body-good}
 use Rattle.book.specs.Open.{open-refusal}
-use Rattle.book.specs.Pull.{bears, entry-of, missing, place-at, part-at, pull-refusal, pulled, offset-at, pulled-from}
+use Rattle.book.specs.Pull.{bears, entry-of, missing, part-at, pull-refusal, pulled, offset-at, pulled-from}
 use Rattle.book.specs.ContentsLoops.{entry-first}
 use Rattle.book.specs.Accepted.{Accepted, Accepted-entry, numbers-rise, part-some, part-good}
 
@@ -75,7 +76,7 @@ pub record There (bs : List ℕ) (t e : ℕ) : Type 0 where
 
 -- either the tune is there, or Pull refuses and gives back nothing
 data Pulls (bs : List ℕ) (t : ℕ) : Type 0 where
-  there : pull-refusal bs t ≡ 0 → There bs t (place-at (entry-of bs t)) → Pulls bs t
+  there : pull-refusal bs t ≡ 0 → There bs t (or-zero (entry-of bs t)) → Pulls bs t
   refused : (pull-refusal bs t ≡ 0 → ⊥) → pulled bs t ≡ [] → pulled-from bs t ≡ 0 → Pulls bs t
 
 pulls : (bs : List ℕ) (t : ℕ) → Pulls bs t
@@ -99,7 +100,7 @@ pulls bs t =
           begins = pulled-from-accepted bs t a ∙ ap (offset-at bs) q;
         }))
 
-pub pulls-only : (bs : List ℕ) (t : ℕ) → pull-refusal bs t ≡ 0 → There bs t (place-at (entry-of bs t))
+pub pulls-only : (bs : List ℕ) (t : ℕ) → pull-refusal bs t ≡ 0 → There bs t (or-zero (entry-of bs t))
 pulls-only bs t r = elim (pulls bs t) [ there p h ↦ h | refused n e b ↦ absurd (n r) ]
 
 -- the part is empty exactly on a refusal

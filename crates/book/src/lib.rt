@@ -24,4 +24,5 @@ pub use pull::tune_body;
 pub use pull::tune_offset;
 pub use pull::tune_place;
 pub use reading::Reading;
+pub use reading::body_good;
 pub use reading::read_card;

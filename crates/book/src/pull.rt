@@ -1,9 +1,10 @@
 // Pull: the part of a book that is a tune's body, found by the tune number.
 //
 ghost use mathlib.Core.Path.{_≡_};
+ghost use Rattle.algebra.specs.Search.{or-zero};
 ghost use Rattle.refusal.specs.Replies.{outcome, reply, reply-with};
 ghost use Rattle.book.specs.Layout.{tunes, Entries-within};
-ghost use Rattle.book.specs.Pull.{entry-of, place-at, pull-refusal, pulled, pulled-from};
+ghost use Rattle.book.specs.Pull.{entry-of, pull-refusal, pulled, pulled-from};
 ghost use Rattle.book.specs.ContentsLoops.{place-of};
 use crate::contents::open;
 use crate::entries::body_at;
@@ -39,7 +40,7 @@ fn find_entry(book: &[u8], count: usize, number: u32) -> Place
 
 // The place in the contents of the entry that bears the tune number. As Open; then 8 if no entry has the number.
 pub fn tune_place(book: &[u8], number: u32) -> Answer
-    ensures { λ r. ⌜ reply r ≡ reply-with 0 (pull-refusal (now (book .entry)) number) (place-at (entry-of (now (book .entry)) number)) ⌝ }
+    ensures { λ r. ⌜ reply r ≡ reply-with 0 (pull-refusal (now (book .entry)) number) (or-zero (entry-of (now (book .entry)) number)) ⌝ }
 {
     match open(book) {
         Answer::Refused(why) => Answer::Refused(why),

@@ -16,7 +16,7 @@ pub enum Reading {
 }
 
 // Refusal 2: whether the bytes are a body.
-pub(crate) fn body_good(body: &[u8]) -> bool
+pub fn body_good(body: &[u8]) -> bool
     ensures { λ r. ⌜ r ≡ body-good (now (body .entry)) ⌝ }
 {
     if 65532 < body.len() {

@@ -1,9 +1,8 @@
 -- What the functions of the C interface promise: the refusal's number, and what is in each list and number lent afterwards. Of calls that are lent
--- one number, and of those of the cable, `Gives` (refusal/Replies) says it.
--- Main: Encodes, Tests, Decodes, DecodesDead, Pulls, Lists, Reads, card-number, Writes, Fills.
+-- one number, of those of the cable, and of each number of wear, `Gives` (refusal/Replies) says it.
+-- Main: Encodes, Tests, Decodes, DecodesDead, Pulls, Lists, Reads, Writes, Fills.
 use mathlib.Core.Path.{_≡_}
 use mathlib.Core.List.{List}
-use mathlib.Core.Option.{Option, none, some}
 use Prim.Native.Nat.{ℕ}
 use lib.ListN.{length}
 use Rattle.refusal.specs.Replies.{unless}
@@ -20,7 +19,8 @@ use Rattle.book.specs.Pull.{pull-refusal, pulled, pulled-from}
 use Rattle.book.specs.Entries.{tune-at}
 use Rattle.book.specs.Reading.{reading}
 use Rattle.text.specs.Text.{written, room-refusal}
-use Rattle.listing.specs.Listing.{listing, longest}
+use Rattle.report.specs.declared.Kind.the-variants.{Listing}
+use Rattle.report.specs.Reports.{report, longest}
 use Rattle.writer.specs.Writing.{book-bytes, write-refusal}
 
 -- encoding, testing and decoding fill their lists
@@ -64,16 +64,11 @@ pub record Reads (bs : List ℕ) (n b f d x r b-now f-now d-now x-now : ℕ) : T
   pub delay-is : d-now ≡ unless (reading bs n .refusal) (reading bs n .value .strike .delay) d
   pub damage-is : x-now ≡ unless (reading bs n .refusal) (reading bs n .value .damage .rank) x
 
--- a card as a number, none being 0
-unfoldable pub card-number : Option ℕ → ℕ
-card-number none = 0
-card-number (some n) = n
-
 -- the listing at the start of the text, and its length
 pub record Writes (bs text : List ℕ) (w r : ℕ) (text-now : List ℕ) (w-now : ℕ) : Type 0 where
   pub answers : r ≡ room-refusal longest text
-  pub text-is : text-now ≡ unless (room-refusal longest text) (written text 0 (listing bs)) text
-  pub written-is : w-now ≡ unless (room-refusal longest text) (length (listing bs)) w
+  pub text-is : text-now ≡ unless (room-refusal longest text) (written text 0 (report Listing bs)) text
+  pub written-is : w-now ≡ unless (room-refusal longest text) (length (report Listing bs)) w
 
 -- writing fills a book
 pub record Fills (ns cs ss bs : List ℕ) (r : ℕ) (bs-now : List ℕ) : Type 0 where

@@ -1,5 +1,5 @@
 -- What is given follows from the operations' answers.
--- Main: unless-none, unless-same, reply-given, given, refused-given, value-given; reads-refused, reads-strike; lists-refused, lists-tune;
+-- Main: unless-none, unless-same, reply-given, given, refused-given, value-given, part-refused, part-given; reads-refused, reads-strike; lists-refused, lists-tune;
 -- pulled-short.
 use mathlib.Core.Path.{_≡_, refl, sym, ap, _∙_}
 use mathlib.Core.Bool.{Bool, true, false, cond}
@@ -60,6 +60,14 @@ module _ {A : Type 0} (f : A → ℕ) (empty : A) where
 
   pub value-given : (t : Reply A) (v : A) (old : ℕ) → t ≡ replied v → (0 ≡ t .refusal) × (f v ≡ unless (t .refusal) (f (t .value)) old)
   value-given t v old e = rw e (refl, unless-none 0 (f v) old refl)
+
+  -- both together, for an answer of which several numbers are given
+  module _ (t : Reply A) (n : ℕ) (v : A) (e : t ≡ reply-with empty n v) (old : ℕ) where
+    pub part-refused : (x : Refusal) (m : ℕ) → t ≡ refused-with empty (number x) → m ≡ number x → Gives n (f v) old m old
+    part-refused x m p q = let (a, g) = refused-given t x m old p q in given t n v old m old e a g
+
+    pub part-given : (w : A) → t ≡ replied w → Gives n (f v) old 0 (f w)
+    part-given w p = let (a, g) = value-given t w old p in given t n v old 0 (f w) e a g
 
 -- READ
 module _ (bs : List ℕ) (n : ℕ) (r : Reading) (e : read-reply r ≡ reading bs n) where

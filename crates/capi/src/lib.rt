@@ -3,6 +3,7 @@
 ghost use mathlib.Core.Path.{_≡_};
 ghost use mathlib.Core.List.{map};
 ghost use lib.ListN.{length};
+ghost use Rattle.algebra.specs.Search.{or-zero};
 ghost use Rattle.refusal.specs.Replies.{reply, unless, Gives};
 ghost use Rattle.rank.specs.Weight.{weight-of, weight-reply, weight-refusal};
 ghost use Rattle.levels.specs.Levels.{signed-of, symbol-of, received};
@@ -10,13 +11,16 @@ ghost use Rattle.cable.specs.Operations.{levels-refusal, symbols-refusal, recei
 ghost use Rattle.book.specs.Layout.{tunes};
 ghost use Rattle.book.specs.Open.{open-refusal};
 ghost use Rattle.book.specs.Bodies.{body-refusal, total-delay, first-damaged, worn-reply};
+ghost use Rattle.wear.specs.Wear.{worst-run, wear-refusal};
 ghost use Rattle.writer.specs.Writing.{book-length, size-refusal};
-ghost use Rattle.capi.specs.Calls.{Encodes, Tests, Decodes, DecodesDead, Pulls, Lists, Reads, card-number, Writes, Fills};
+ghost use Rattle.capi.specs.Calls.{Encodes, Tests, Decodes, DecodesDead, Pulls, Lists, Reads, Writes, Fills};
 use book::Entry;
 use book::Reading;
 use book::Worn;
 use rank::Weighed;
 use refusal::Answer;
+use report::Kind;
+use wear::Wear;
 
 // An answer in two numbers: the refusal's number is returned, and the value is given where there is none.
 fn give(a: Answer, value: &mut u32) -> u32
@@ -63,7 +67,7 @@ fn give_rank(a: Weighed, rank: &mut u32) -> u32
 // The same of an answer that names a card, or none.
 fn give_card(a: Worn, card: &mut u32) -> u32
     ensures refusal { λ r. ⌜ r ≡ worn-reply a .refusal ⌝ }
-    ensures given { λ r. ⌜ now (card .exit) ≡ unless (worn-reply a .refusal) (card-number (worn-reply a .value)) (now (card .entry)) ⌝ }
+    ensures given { λ r. ⌜ now (card .exit) ≡ unless (worn-reply a .refusal) (or-zero (worn-reply a .value)) (now (card .entry)) ⌝ }
 {
     match a {
         Worn::Refused(why) => refusal::number(why),
@@ -242,9 +246,25 @@ pub extern "C" fn lucetcoral_total_delay(body: &[u8], ticks: &mut u32) -> u32
 // The number of the first damaged card, 0 for none (document 01: Worn).
 #[no_mangle]
 pub extern "C" fn lucetcoral_damaged_card(body: &[u8], card: &mut u32) -> u32
-    ensures { λ r. ⌜ Gives (body-refusal (now (body .entry))) (card-number (first-damaged (now (body .entry)))) (now (card .entry)) r (now (card .exit)) ⌝ }
+    ensures { λ r. ⌜ Gives (body-refusal (now (body .entry))) (or-zero (first-damaged (now (body .entry)))) (now (card .entry)) r (now (card .exit)) ⌝ }
 {
     give_card(book::damaged_card(body), card)
+}
+
+// The largest sum of wear over `width` cards in a row, and the first card at which such a run begins (document 02, P7).
+#[no_mangle]
+pub extern "C" fn lucetcoral_wear(body: &[u8], width: u32, sum: &mut u32, first: &mut u32) -> u32
+    ensures { λ r. ⌜ Gives (wear-refusal (now (body .entry)) width) (worst-run (now (body .entry)) width .sum) (now (sum .entry)) r (now (sum .exit)) ⌝ }
+    ensures { λ r. ⌜ Gives (wear-refusal (now (body .entry)) width) (worst-run (now (body .entry)) width .first) (now (first .entry)) r (now (first .exit)) ⌝ }
+{
+    match wear::worst_run(body, width) {
+        Wear::Refused(why) => refusal::number(why),
+        Wear::Run(run) => {
+            *sum = run.sum;
+            *first = run.first;
+            0
+        },
+    }
 }
 
 // The listing of a book.
@@ -252,7 +272,7 @@ pub extern "C" fn lucetcoral_damaged_card(body: &[u8], card: &mut u32) -> u32
 pub extern "C" fn lucetcoral_list(book: &[u8], text: &mut [u8], written: &mut usize) -> u32
     ensures { λ r. ⌜ Writes (now (book .entry)) (now (text .entry)) (now (written .entry)) r (now (text .exit)) (now (written .exit)) ⌝ }
 {
-    give_size(listing::write_listing(book, text), written)
+    give_size(report::write_report(Kind::Listing, book, text), written)
 }
 
 // A book filled from tune numbers, counts of cards and strikes.

@@ -1,5 +1,5 @@
 // Runs calls of the operations, one a line of standard input, and prints a line for what comes of each. A call is the number of the
-// operation, then k, masks, the number of a tune or a card, or a place if it takes them, then its lists, each as its length and its values. What comes of it
+// operation, then k, masks, the number of a tune or a card, a place or a width if it takes them, then its lists, each as its length and its values. What comes of it
 // is the status, 0 or the refusal, then the numbers given back, then the lists that were lent to be filled.
 // Assumes what `io` and `libc` assume of reading and writing; of the input, at most 131,072 bytes are read.
 mod books;
@@ -32,6 +32,7 @@ fn run(line: &[u8]) {
         16 => levels::levels(line, at),
         17 => levels::symbols(line, at),
         18 => levels::receive(line, at),
+        19 => tunes::worst_run(line, at),
         _ => {},
     }
     io::write_all(1, b"\n");

@@ -8,6 +8,7 @@ use rank::Weighed;
 use refusal::Answer;
 use refusal::Outcome;
 use refusal::Refusal;
+use wear::Wear;
 
 // A number after the first.
 pub(crate) fn number(n: u64) {
@@ -84,6 +85,18 @@ pub(crate) fn worn(of: Worn) {
         Worn::Card(n) => done_with(n),
         Worn::Nothing => done_with(0),
         Worn::Refused(why) => refused(why),
+    }
+}
+
+// The sum of a run's wear, and its first card.
+pub(crate) fn run(of: Wear) {
+    match of {
+        Wear::Run(r) => {
+            done();
+            number(r.sum as u64);
+            number(r.first as u64);
+        },
+        Wear::Refused(why) => refused(why),
     }
 }
 

@@ -47,6 +47,13 @@ pub(crate) fn damaged_card(line: &[u8], at: usize) {
     print::worn(book::damaged_card(&bytes[..b.count]));
 }
 
+pub(crate) fn worst_run(line: &[u8], at: usize) {
+    let mut bytes = io::buffer();
+    let width = parse::number(line, at);
+    let b = parse::bytes(line, width.at, &mut bytes);
+    print::run(wear::worst_run(&bytes[..b.count], width.value));
+}
+
 pub(crate) fn tune_at(line: &[u8], at: usize) {
     let mut bytes = io::buffer();
     let place = parse::number(line, at);

@@ -3,10 +3,10 @@
 -- book/Layout and book/Open; for dead lines also with dead_lines/Struck and `ones` of rank/Mask; for Write with strike/Turns, writer/Writing and
 -- `Shows` of writer/Shown; for the cable with levels/Levels and `Sent` of levels/Received. What holds of written books is `Books-say`
 -- (WrittenBooks). Answers are replies (refusal/Replies): `outcome`, `reply`, `weight-reply` (rank/Weight), `read-reply` (book/Reading), `worn-reply`
--- (book/Bodies) and `signed-reply` (cable/Operations) give them for each case of an enum. A message or a list mu that is named here is the only one of
+-- (book/Bodies), `wear-reply` (wear/Wear) and `signed-reply` (cable/Operations) give them for each case of an enum. A message or a list mu that is named here is the only one of
 -- its kind.
 -- Main: Code-says, Press-says, Weigh-says, Test-says, Mend-says, Mend-dead-says, Mends-alike, Open-says, Pull-says, Read-says, Length-says,
--- Worn-says, Write-says, Size-says, Cable-says, Signed-says, Symbol-says, Levels-says, Symbols-says, Receive-says, Mends-sent.
+-- Worn-says, Wear-says, Write-says, Size-says, Cable-says, Signed-says, Symbol-says, Levels-says, Symbols-says, Receive-says, Mends-sent.
 --
 -- THE FIRST DEMAND: every operation ends, does nothing undefined, refuses bad input by number in a fixed order, and then changes nothing.
 -- That it ends and does nothing undefined is what a proof in Rattle is, and no operation has a `requires`. Each `-refusal` below has the numbers
@@ -41,6 +41,8 @@ use Rattle.strike.specs.Turns.{any-beyond}
 use Rattle.book.specs.Layout.{tunes, tune-number, offset, cards, tune-numbers, body-good, card}
 use Rattle.book.specs.Open.{rising, bodies-good}
 use Rattle.book.specs.Reading.{Card-value, no-value, cards-in}
+use Rattle.wear.specs.declared.runs.Run.{Run}
+use Rattle.wear.specs.Wear.{no-run}
 use Rattle.writer.specs.Writing.{all-cards, any-zero, book-bytes}
 use Rattle.writer.specs.Shown.{Shows}
 
@@ -229,6 +231,34 @@ Worn-as false bs r = r ≡ refused-with none 2
 
 unfoldable pub Worn-says : (body : List ℕ) → Reply (Option ℕ) → Type 0
 Worn-says bs r = Worn-as (body-good bs) bs r
+
+-- WEAR (document 02, P7): 2 for the body; 12 for a width of 0, above 64, or above the count of cards; else the largest sum over w cards in a row, and
+-- the first card at which such a run begins. Card n wears by x: by the rank of its damage, or by 3 if Read refuses it
+unfoldable pub Wears : (body : List ℕ) → (n x : ℕ) → Type 0
+Wears bs n x = (r : Reply Card-value) × Read-says bs n r × (((r .refusal ≡ 0) × (x ≡ r .value .damage .rank)) ⊎ ((1 ≤ r .refusal) × (x ≡ 3)))
+
+-- the w cards from card n on wear by this sum
+pub data Run-wears (bs : List ℕ) : (w n : ℕ) → (sum : ℕ) → Type 0 where
+  none-wear : (n : ℕ) → Run-wears bs 0 n 0
+  one-wears : (w n s x : ℕ) → Run-wears bs w n s → Wears bs (n + w) x → Run-wears bs (suc w) n (s + x)
+
+-- and are cards of the body
+unfoldable pub Run-at : (body : List ℕ) → (w n sum : ℕ) → Type 0
+Run-at bs w n s = (1 ≤ n) × (n + w ≤ cards-in bs + 1) × Run-wears bs w n s
+
+-- no run has a larger sum, and none before this one has the same
+unfoldable pub Worst-run : (body : List ℕ) → (w n sum : ℕ) → Type 0
+Worst-run bs w n s = Run-at bs w n s × ((m t : ℕ) → Run-at bs w m t → t ≤ s) × ((m t : ℕ) → m < n → Run-at bs w m t → t < s)
+
+unfoldable pub wearing-refusal : (body : List ℕ) → (w : ℕ) → ℕ
+wearing-refusal bs w = cond (not (body-good bs)) 2 (cond (eqb w 0 || ltb 64 w || ltb (cards-in bs) w) 12 0)
+
+unfoldable pub Wear-as : (refusal : ℕ) → (body : List ℕ) → (w : ℕ) → Reply Run → Type 0
+Wear-as zero bs w r = (r .refusal ≡ 0) × Worst-run bs w (r .value .first) (r .value .sum)
+Wear-as (suc x) bs w r = r ≡ refused-with no-run (suc x)
+
+unfoldable pub Wear-says : (body : List ℕ) → (w : ℕ) → Reply Run → Type 0
+Wear-says bs w r = Wear-as (wearing-refusal bs w) bs w r
 
 -- how many bytes a book with these counts of cards has
 abbrev pub bytes-needed : (counts : List ℕ) → ℕ

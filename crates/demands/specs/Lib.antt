@@ -4,9 +4,10 @@ pub mod Demands
 -- What is said leaves nothing free
 pub mod Settled
 -- What is said holds: of the code, Press, Weigh, Test and Mend, also with dead lines; of Open, Pull, Read, Length, Worn, Write and
--- Size; of levels on the cable
+-- Size; of wear; of levels on the cable
 pub mod CardDemands
 pub mod BookDemands
+pub mod WearDemands
 pub mod CableDemands
 -- What holds of written books, stated and proved
 pub mod WrittenBooks

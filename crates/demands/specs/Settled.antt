@@ -1,6 +1,6 @@
 -- What is said leaves nothing free: two answers of which a statement holds are the same, and so are the lists left behind. Press, Weigh, Open, Write,
 -- Size, Signed and Levels are equations already; each other statement is its `-as` at a number x, those of Length, Worn and Symbol at a test.
--- Main: test-settled, mend-settled, mend-dead-settled, pull-settled, read-settled, said-once, length-settled, worn-settled, symbol-settled,
+-- Main: test-settled, mend-settled, mend-dead-settled, pull-settled, read-settled, said-once, length-settled, worn-settled, wear-settled, symbol-settled,
 -- symbols-settled, receive-settled.
 use mathlib.Core.Path.{_≡_, refl, sym, ap, _∙_}
 use mathlib.Core.Logic.{inl, inr}
@@ -18,9 +18,11 @@ use Rattle.levels.specs.Balanced.{symbol-signed, levels-back}
 use Rattle.levels.specs.Received.{sent-once}
 use Rattle.book.specs.Layout.{card}
 use Rattle.book.specs.Reading.{Card-value, no-value}
+use Rattle.wear.specs.declared.runs.Run.{Run}
 use Rattle.demands.specs.Demands.{Test-as, Mend-as, Mended, Hopeless, Mend-dead-as, Mended-dead, Hopeless-dead, Pull-as, Pulled, Missing}
 use Rattle.demands.specs.Demands.{reading-refusal, Read-as, Read-card, Read-strike, Read-says}
 use Rattle.demands.specs.Demands.{Delays, no-cards, one-more, Hole, Length-sum, Length-hole, Length-as, Worn-card, Worn-as}
+use Rattle.demands.specs.Demands.{Worst-run, Wear-as}
 use Rattle.demands.specs.Demands.{Symbol-as, Symbols-as, Receive-as}
 
 module _ (k : ℕ) (c t : List ℕ) (r s : ℕ) (y z : List ℕ) where
@@ -120,6 +122,24 @@ module _ (bs : List ℕ) where
   unfolding Worn-as
   worn-settled r s true a b = let same = card-settled (r .value) (s .value) (a .1) (b .1) in λ i. record { refusal = (a .0 ∙ sym (b .0)) i; value = same i }
   worn-settled r s false a b = cc
+
+-- WEAR
+module _ (bs : List ℕ) (w : ℕ) where
+  worst-settled : (m s n t : ℕ) → Worst-run bs w m s → Worst-run bs w n t → (m ≡ n) × (s ≡ t)
+  unfolding Worst-run
+  worst-settled m s n t a b =
+      let p = a .1 n t (b .0) in
+      let q = b .1 m s (a .0) in
+      let l : m < n → ⊥ = λ h. omega (arith, b .2 m s h (a .0)) in
+      let r : n < m → ⊥ = λ h. omega (arith, a .2 n t h (b .0)) in
+      (omega arith, omega arith)
+
+  pub wear-settled : (r s : Reply Run) (x : ℕ) → Wear-as x bs w r → Wear-as x bs w s → r ≡ s
+  unfolding Wear-as
+  wear-settled r s zero a b =
+      let (f, v) = worst-settled _ _ _ _ (a .1) (b .1) in
+      λ i. record { refusal = (a .0 ∙ sym (b .0)) i; value = record { sum = v i; first = f i } }
+  wear-settled r s (suc x) a b = cc
 
 -- ON THE CABLE
 module _ (n : ℤ) (r s : Reply ℕ) where

@@ -8,8 +8,9 @@ ghost use Rattle.rank.specs.Weight.{weight-reply};
 ghost use Rattle.cable.specs.Operations.{signed-reply};
 ghost use Rattle.book.specs.Reading.{read-reply};
 ghost use Rattle.book.specs.Bodies.{worn-reply};
+ghost use Rattle.wear.specs.Wear.{wear-reply};
 ghost use Rattle.demands.specs.Demands.{Press-says, Weigh-says, Test-says, Mend-says, Mend-dead-says, Mends-alike};
-ghost use Rattle.demands.specs.Demands.{Open-says, Pull-says, Read-says, Length-says, Worn-says, Write-says, Size-says};
+ghost use Rattle.demands.specs.Demands.{Open-says, Pull-says, Read-says, Length-says, Worn-says, Wear-says, Write-says, Size-says};
 ghost use Rattle.demands.specs.Demands.{Signed-says, Symbol-says, Levels-says, Symbols-says, Receive-says, Mends-sent};
 use book::Reading;
 use book::Worn;
@@ -17,6 +18,7 @@ use cable::SignedAnswer;
 use rank::Weighed;
 use refusal::Answer;
 use refusal::Outcome;
+use wear::Wear;
 
 // The list is filled with the word of the message (document 01: Press).
 pub fn encode(k: u32, message: &[u16], word: &mut [u16]) -> Outcome
@@ -108,6 +110,13 @@ pub fn damaged_card(body: &[u8]) -> Worn
     ensures { λ r. ⌜ Worn-says (now (body .entry)) (worn-reply r) ⌝ }
 {
     book::damaged_card(body)
+}
+
+// The answer is the largest sum of wear over so many cards in a row, and the first card at which such a run begins (document 02, P7).
+pub fn worst_run(body: &[u8], width: u32) -> Wear
+    ensures { λ r. ⌜ Wear-says (now (body .entry)) width (wear-reply r) ⌝ }
+{
+    wear::worst_run(body, width)
 }
 
 // The lent book is filled with the book of the lists, which shows them (document 02, P1).

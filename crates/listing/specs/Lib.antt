@@ -1,9 +1,7 @@
--- The listing of a tune book (SPECIFICATION 9.1). In reading order.
+-- A tune in a listing (SPECIFICATION 9.1). In reading order.
 -- Definitions
 pub mod Listing
 -- How long the texts are
 pub mod Sizes
--- Laws of the loops over cards and tunes
+-- Laws of the loop over cards
 pub mod Lines
--- The example
-pub mod Example

@@ -1,17 +1,16 @@
--- The text that lists a tune book (SPECIFICATION 9.1), as the list of its bytes.
--- Main: card-line, card-lines, tune-text, tune-texts, listing, longest.
+-- The text of a tune in a listing (SPECIFICATION 9.1), as the list of its bytes.
+-- Main: card-line, card-lines, tune-line, ticks-line, body-text, tune-text.
 use mathlib.Core.Bool.{cond}
-use mathlib.Core.List.{List, [], _++_}
-use Prim.Native.Nat.{ℕ, zero, suc}
+use mathlib.Core.List.{List, _++_}
+use Prim.Native.Nat.{ℕ, suc}
 use lib.Dec.{eqb}
 use Rattle.refusal.specs.Replies.{Reply}
 use Rattle.rank.specs.declared.Weight.{Weight}
 use Rattle.strike.specs.declared.Strike.{Strike}
-use Rattle.book.specs.Layout.{tunes, tune-number, cards, part-of}
-use Rattle.book.specs.Open.{open-refusal}
+use Rattle.book.specs.Layout.{tune-number, cards, part-of}
 use Rattle.book.specs.Reading.{Card-value, cards-in, reading}
 use Rattle.book.specs.Bodies.{total-delay}
-use Rattle.text.specs.Text.{ascii, line-end, decimal, spaced, word-line, book-refused}
+use Rattle.text.specs.Text.{ascii, line-end, decimal, spaced, word-line, joined}
 
 -- CARD LINES: card, bell, force, delay, rank of damage
 unfoldable pub strike-line : (n : ℕ) → Strike → (damage : Weight) → List ℕ
@@ -26,9 +25,8 @@ unfoldable pub card-line : (n : ℕ) → Reply Card-value → List ℕ
 card-line n r = cond (eqb (r .refusal) 0) (strike-line n (r .value .strike) (r .value .damage)) (refused-line n (r .refusal))
 
 -- of the first k cards of a body
-unfoldable pub card-lines : (k : ℕ) → (body : List ℕ) → List ℕ
-card-lines zero bs = []
-card-lines (suc k) bs = card-lines k bs ++ card-line (suc k) (reading bs (suc k))
+abbrev pub card-lines : (k : ℕ) → (body : List ℕ) → List ℕ
+card-lines k bs = joined (λ i. card-line (suc i) (reading bs (suc i))) k
 
 -- A TUNE. First line: tune number, cards
 unfoldable pub tune-line : (tune cards : ℕ) → List ℕ
@@ -45,16 +43,3 @@ body-text bs = card-lines (cards-in bs) bs ++ ticks-line (total-delay bs)
 -- of entry e of the contents
 unfoldable pub tune-text : List ℕ → (e : ℕ) → List ℕ
 tune-text bs e = tune-line (tune-number bs e) (cards bs e) ++ body-text (part-of bs e)
-
--- of the first k entries, in contents order
-unfoldable pub tune-texts : (k : ℕ) → List ℕ → List ℕ
-tune-texts zero bs = []
-tune-texts (suc k) bs = tune-texts k bs ++ tune-text bs k
-
--- THE LISTING of a book: its tunes, or its one line where it is refused
-unfoldable pub listing : List ℕ → List ℕ
-listing bs = cond (eqb (open-refusal bs) 0) (tune-texts (tunes bs) bs) (book-refused (open-refusal bs))
-
--- no listing has more bytes than this (proved in Sizes)
-abbrev pub longest : ℕ
-longest = 131072

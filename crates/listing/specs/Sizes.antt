@@ -1,6 +1,6 @@
--- How long the texts are: no listing is longer than `longest`.
--- Main: strike-line-length, refused-line-length, tune-line-length, body-text-length, tune-text-length; listing-within.
-use mathlib.Core.Path.{_≡_, refl}
+-- How long the text of a tune is: at most two bytes for each byte of its entry and its body.
+-- Main: strike-line-length, refused-line-length, tune-line-length, body-text-length, tune-text-length; tune-text-short.
+use mathlib.Core.Path.{_≡_}
 use mathlib.Core.Bool.{Bool, true, false, cond}
 use mathlib.Core.List.{List, _++_}
 use Prim.Native.Nat.{ℕ, zero, suc, _+_, _*_, _-_, _≤_, _<_}
@@ -8,20 +8,18 @@ use native.Mathlib.Decide.{decLt}
 use native.Mathlib.Omega.{arith}
 use lib.Dec.{eqb}
 use lib.ListN.{length, length-append}
-use borrow.Author.Tests.{eqb-true}
-use Rattle.book.specs.Layout.{tunes, contents-end, tune-number, cards, part-of}
-use Rattle.book.specs.Open.{open-refusal}
+use Rattle.book.specs.Layout.{tunes, tune-number, cards, part-of}
 use Rattle.refusal.specs.Replies.{Reply}
 use Rattle.rank.specs.declared.Weight.{Weight}
 use Rattle.strike.specs.declared.Strike.{Strike}
 use Rattle.book.specs.Reading.{Card-value, cards-in, reading}
 use Rattle.book.specs.Bodies.{total-delay}
-use Rattle.book.specs.Accepted.{Accepted, book-within, body-start, bodies-fill, part-length, cards-some, number-range, part-good}
-use Rattle.book.specs.Bounds.{good-length, Bounded, reading-bounded, open-bounded}
+use Rattle.book.specs.Accepted.{Accepted, part-length, cards-some, number-range, part-good}
+use Rattle.book.specs.Bounds.{good-length, Bounded, reading-bounded}
 use Rattle.book.specs.Delays.{total-bounded}
-use Rattle.text.specs.Text.{ascii, line-end, decimal, spaced, word-line, book-refused}
-use Rattle.text.specs.Decimal.{one-digit, two-digits, three-digits, four-digits, seven-digits, spaced-length, word-line-length, book-refused-length}
-use Rattle.listing.specs.Listing.{strike-line, refused-line, card-line, card-lines, tune-line, ticks-line, body-text, tune-text, tune-texts, listing, longest}
+use Rattle.text.specs.Text.{ascii, line-end, decimal, spaced, word-line, joined}
+use Rattle.text.specs.Decimal.{one-digit, two-digits, three-digits, four-digits, seven-digits, spaced-length, word-line-length}
+use Rattle.listing.specs.Listing.{strike-line, refused-line, card-line, card-lines, tune-line, ticks-line, body-text, tune-text}
 
 -- LENGTHS of the lines, part by part
 pub strike-line-length : (n : ℕ) (s : Strike) (d : Weight)
@@ -70,7 +68,7 @@ card-line-short n r l = go (eqb (r .refusal) 0)
 
 -- that of card 1 at most 14 bytes, and any other 17, as card numbers have at most four digits
 card-lines-short : (k : ℕ) (bs : List ℕ) → suc k < 10000 → length (card-lines (suc k) bs) ≤ 14 + 17 * k
-unfolding card-lines
+unfolding joined
 card-lines-short zero bs h = omega (arith, card-line-short 1 (reading bs 1) (reading-bounded bs 1), one-digit 1 (omega arith))
 card-lines-short (suc k) bs h =
     let n = suc (suc k) in
@@ -98,46 +96,17 @@ tune-short t c r l ht h1 hc hr hl = go (decLt c 2)
     go (yes one) = omega (arith, tune-line-length t c, spaced-length t, spaced-length c, four-digits t ht, one-digit c (omega arith), last)
     go (no more) = omega (arith, tune-line-length t c, spaced-length t, spaced-length c, four-digits t ht, four-digits c (omega arith), last)
 
-module _ (bs : List ℕ) (a : Accepted bs) where
-  tune-text-short : (e : ℕ) → e < tunes bs → length (tune-text bs e) ≤ 2 * (8 + 12 * cards bs e)
-  tune-text-short e h =
-      let b = part-of bs e in
-      let c = cards bs e in
-      let n = part-length bs a e h in
-      let m : cards-in b ≡ c = omega (arith, n) in
-      let k : c ≤ 5461 = omega (arith, good-length b (part-good bs a e h), n) in
-      let t = number-range bs a e h .1 in
-      let s = cards-some bs a e h in
-      let d = total-bounded b in
-      let p : cards-in b ≡ suc (c - 1) = omega arith in
-      let l : length (card-lines (cards-in b) b) + 3 ≤ 17 * c = rw p (omega (arith, card-lines-short (c - 1) b (omega arith))) in
-      let f = tune-short (tune-number bs e) c (total-delay b) (length (card-lines (cards-in b) b)) (omega arith) s k (omega arith) l in
-      omega (arith, tune-text-length bs e, body-text-length b)
-
-  -- the tunes so far have at most two bytes for each byte of their entries and bodies
-  tune-texts-short : (e : ℕ) → e ≤ tunes bs → length (tune-texts e bs) + 2 * contents-end (tunes bs) ≤ 16 * e + 2 * body-start bs e
-  unfolding tune-texts body-start
-  tune-texts-short zero h = omega arith
-  tune-texts-short (suc e) h =
-      let l = length-append (tune-texts e bs) (tune-text bs e) in
-      omega (arith, tune-texts-short e (omega arith), tune-text-short e (omega arith))
-
-  tunes-within : length (tune-texts (tunes bs) bs) ≤ longest
-  tunes-within =
-      let s = tune-texts-short (tunes bs) (omega arith) in
-      omega (arith, bodies-fill bs a, book-within bs a)
-
--- A REFUSED BOOK is one short line
-refused-within : (bs : List ℕ) → length (book-refused (open-refusal bs)) ≤ longest
-refused-within bs =
-    let m = open-refusal bs in
-    omega (arith, book-refused-length m, spaced-length m, two-digits m (open-bounded bs))
-
--- NO LISTING IS LONGER, whatever the bytes
-pub listing-within : (bs : List ℕ) → length (listing bs) ≤ longest
-unfolding listing
-listing-within bs = go (eqb (open-refusal bs) 0) refl
-  where
-    go : (b : Bool) → eqb (open-refusal bs) 0 ≡ b → length (cond b (tune-texts (tunes bs) bs) (book-refused (open-refusal bs))) ≤ longest
-    go true e = tunes-within bs (eqb-true (open-refusal bs) 0 e)
-    go false e = refused-within bs
+pub tune-text-short : (bs : List ℕ) → Accepted bs → (e : ℕ) → e < tunes bs → length (tune-text bs e) ≤ 2 * (8 + 12 * cards bs e)
+tune-text-short bs a e h =
+    let b = part-of bs e in
+    let c = cards bs e in
+    let n = part-length bs a e h in
+    let m : cards-in b ≡ c = omega (arith, n) in
+    let k : c ≤ 5461 = omega (arith, good-length b (part-good bs a e h), n) in
+    let t = number-range bs a e h .1 in
+    let s = cards-some bs a e h in
+    let d = total-bounded b in
+    let p : cards-in b ≡ suc (c - 1) = omega arith in
+    let l : length (card-lines (cards-in b) b) + 3 ≤ 17 * c = rw p (omega (arith, card-lines-short (c - 1) b (omega arith))) in
+    let f = tune-short (tune-number bs e) c (total-delay b) (length (card-lines (cards-in b) b)) (omega arith) s k (omega arith) l in
+    omega (arith, tune-text-length bs e, body-text-length b)

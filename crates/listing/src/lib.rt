@@ -1,7 +1,5 @@
-// The text that lists a tune book, written into a list that the caller lends (SPECIFICATION 8.12).
-//
+// What a listing says of a tune: the tune, each of its cards, and its length (SPECIFICATION 9.1), written into a list that the caller lends.
 mod lines;
 mod tunes;
 
-pub use tunes::LONGEST;
-pub use tunes::write_listing;
+pub use tunes::write_tune;

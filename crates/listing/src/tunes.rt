@@ -1,24 +1,19 @@
-// The listing of a book, tune by tune. The book is opened once, and each card is decoded once.
+// The text of a tune in a listing. Each card is decoded once.
 ghost use mathlib.Core.Path.{_≡_};
 ghost use mathlib.Core.Bool.{true};
 ghost use Prim.Native.Nat.{_+_, _≤_};
 ghost use lib.ListN.{length};
-ghost use Rattle.refusal.specs.Replies.{reply, reply-with, unless};
-ghost use Rattle.book.specs.Layout.{tunes, body-good};
+ghost use Rattle.refusal.specs.Replies.{reply};
+ghost use Rattle.book.specs.Layout.{body-good};
 ghost use Rattle.book.specs.Reading.{cards-in};
 ghost use Rattle.book.specs.Bodies.{total-delay};
-ghost use Rattle.book.specs.Accepted.{Accepted, Accepted-entry};
-ghost use Rattle.text.specs.Text.{written, room-refusal};
+ghost use Rattle.book.specs.Accepted.{Accepted-entry};
 ghost use Rattle.text.specs.Writing.{Wrote};
-ghost use Rattle.listing.specs.Listing.{card-lines, body-text, tune-text, tune-texts, listing, longest};
+ghost use Rattle.listing.specs.Listing.{card-lines, body-text, tune-text};
 use crate::lines::write_card;
 use crate::lines::write_ticks;
 use crate::lines::write_tune_line;
 use refusal::Answer;
-use refusal::Refusal;
-
-// No listing has more bytes than this.
-pub const LONGEST: usize = 131072;
 
 // Where the card lines of a body end, and the sum of the delays or the first refusal.
 struct CardLines {
@@ -61,7 +56,7 @@ fn write_body(body: &[u8], text: &mut [u8], at: usize) -> usize
 }
 
 // The tune of entry `e` of an accepted book.
-fn write_tune(book: &[u8], e: usize, text: &mut [u8], at: usize) -> usize
+pub fn write_tune(book: &[u8], e: usize, text: &mut [u8], at: usize) -> usize
     requires { ⌜ Accepted-entry (now book) e ⌝ }
     requires { ⌜ at + length (tune-text (now book) e) ≤ length (now text) ⌝ }
     ensures { λ r. ⌜ Wrote (now (text .entry)) at (tune-text (now (book .entry)) e) (now (text .exit)) r ⌝ }
@@ -69,43 +64,4 @@ fn write_tune(book: &[u8], e: usize, text: &mut [u8], at: usize) -> usize
     let tune = book::entry_at(book, e);
     let line_end = write_tune_line(text, at, tune.number, tune.cards);
     write_body(book::body_at(book, e), text, line_end)
-}
-
-// All tunes of an accepted book, in contents order.
-fn write_tunes(book: &[u8], count: usize, text: &mut [u8]) -> usize
-    requires { ⌜ Accepted (now book) ⌝ }
-    requires { ⌜ count ≡ tunes (now book) ⌝ }
-    requires { ⌜ length (tune-texts (tunes (now book)) (now book)) ≤ length (now text) ⌝ }
-    ensures { λ r. ⌜ Wrote (now (text .entry)) 0 (tune-texts (tunes (now (book .entry))) (now (book .entry))) (now (text .exit)) r ⌝ }
-{
-    let mut at = 0;
-    let mut e = 0;
-    while e < count {
-        at = write_tune(book, e, text, at);
-        e += 1;
-    }
-    at
-}
-
-// The listing, where there is room for it.
-fn write_all(book: &[u8], text: &mut [u8]) -> usize
-    requires { ⌜ length (listing (now book)) ≤ length (now text) ⌝ }
-    ensures { λ r. ⌜ Wrote (now (text .entry)) 0 (listing (now (book .entry))) (now (text .exit)) r ⌝ }
-{
-    match book::open(book) {
-        Answer::Refused(why) => text::write_book_refused(text, 0, refusal::number(why)),
-        Answer::Value(count) => write_tunes(book, count as usize, text),
-    }
-}
-
-// The listing of a book at the start of `text`, and how many bytes it has; or refusal 2, if `text` is
-// shorter than the longest listing.
-pub fn write_listing(book: &[u8], text: &mut [u8]) -> Answer
-    ensures { λ r. ⌜ reply r ≡ reply-with 0 (room-refusal longest (now (text .entry))) (length (listing (now (book .entry)))) ⌝ }
-    ensures { λ r. ⌜ now (text .exit) ≡ unless (room-refusal longest (now (text .entry))) (written (now (text .entry)) 0 (listing (now (book .entry)))) (now (text .entry)) ⌝ }
-{
-    if text.len() < LONGEST {
-        return Answer::Refused(Refusal::Length);
-    }
-    Answer::Value(write_all(book, text) as u32)
 }

@@ -25,6 +25,8 @@ pub enum Refusal {
     StrikeField,
     // 11: more dead lines than 6 - k.
     DeadLines,
+    // 12: a width of 0, above 64, or above the count of cards.
+    Width,
 }
 
 // The answer of an operation that has nothing to say but that it is done.
@@ -55,6 +57,7 @@ pub fn number(r: Refusal) -> u32
         Refusal::NoSuchCard => 9,
         Refusal::StrikeField => 10,
         Refusal::DeadLines => 11,
+        Refusal::Width => 12,
     }
 }
 

@@ -1,5 +1,5 @@
 -- Texts that programs print, as lists of bytes in ASCII: words, decimal numbers and lines; and a text in a list that was lent for it.
--- Main: ascii, line-end, decimal, spaced, word-line, book-refused; written, room-refusal.
+-- Main: ascii, line-end, decimal, spaced, word-line, book-refused, joined; written, room-refusal.
 use mathlib.Core.Bool.{cond}
 use mathlib.Core.List.{List, [], _∷_, _++_}
 use Prim.Native.Char.{code}
@@ -40,6 +40,11 @@ word-line w n = w ++ spaced n ++ line-end
 -- the one line of a book that is refused
 unfoldable pub book-refused : (refusal : ℕ) → List ℕ
 book-refused m = word-line (ascii "book refused") m
+
+-- TEXTS one after another: the first k of them
+unfoldable pub joined : (texts : ℕ → List ℕ) → (k : ℕ) → List ℕ
+joined t zero = []
+joined t (suc k) = joined t k ++ t k
 
 -- IN A LENT LIST: the first `at` bytes as they were, then the new bytes, then the rest as it was
 unfoldable pub written : (old : List ℕ) → (at : ℕ) → (bytes : List ℕ) → List ℕ

@@ -1,6 +1,6 @@
 -- Bytes stored in a list that was lent, from a place on. What is written after what was written is one text.
--- Main: written-front; Wrote, wrote-none, wrote-byte, wrote-then, wrote-length, wrote-whole; copying-start, copying-next, copying-end; room-then,
--- pieces-room; Partway, partway-start, partway-next, partway-room, partway-end; room-short, room-enough.
+-- Main: written-front; Wrote, wrote-none, wrote-byte, wrote-then, wrote-length, wrote-whole; copying-start, copying-next, copying-end; room-then;
+-- joined-next, Joining, joining-start, joining-room, joining-next, joining-end; Partway, partway-start, partway-next, partway-room, partway-end; room-short, room-enough.
 use mathlib.Core.Path.{_≡_, refl, sym, _∙_, ap}
 use mathlib.Core.List.{List, [], _∷_, _++_, append-assoc, append-nil}
 use Prim.Native.Nat.{ℕ, zero, suc, _+_, _≤_, _<_}
@@ -12,7 +12,7 @@ use lib.Seq.{take-all, take-append-seam, take-suc, sets, length-sets, sets-eq}
 use borrow.Author.Tests.{lt-ltb, le-ltb}
 use Rattle.refusal.specs.Replies.{number}
 use Rattle.refusal.specs.declared.Refusal.the-variants.{Length}
-use Rattle.text.specs.Text.{written, room-refusal}
+use Rattle.text.specs.Text.{joined, written, room-refusal}
 
 -- the bytes were written and had room, and the next place is behind them
 pub record Wrote (old : List ℕ) (a : ℕ) (bytes new : List ℕ) (next : ℕ) : Type 0 where
@@ -103,21 +103,38 @@ pub room-then : {old : List ℕ} {a : ℕ} {x mid : List ℕ} {b : ℕ} → Wrot
     → a + length (x ++ y) ≤ length old → b + length y ≤ length mid
 room-then {old} {a} {x} w y h = let l = length-append x y in let n = wrote-length w in omega (arith, w .after)
 
--- A TEXT IN PIECES: the first k + 1 are the first k and the next
-module _ (first piece : ℕ → List ℕ) (step : (k : ℕ) → first (suc k) ≡ first k ++ piece k) where
-  pieces-rise : (j k : ℕ) → j ≤ k → length (first j) ≤ length (first k)
-  pieces-rise j zero h = let z : j ≡ 0 = omega arith in rw z (omega arith)
-  pieces-rise j (suc k) h =
-      elim (ℕ-discrete j (suc k)) [
-        | yes p ↦ rw p (omega arith)
-        | no n ↦ omega (arith, pieces-rise j k (omega arith), ap length (step k), length-append (first k) (piece k))
-      ]
+-- TEXTS ONE AFTER ANOTHER, n in all: the first k were written
+pub joined-next : (t : ℕ → List ℕ) (k : ℕ) → joined t (k + 1) ≡ joined t k ++ t k
+unfolding joined
+joined-next t k = rw (add-one k)
 
+joined-rises : (t : ℕ → List ℕ) (j k : ℕ) → j ≤ k → length (joined t j) ≤ length (joined t k)
+unfolding joined
+joined-rises t j zero h = let z : j ≡ 0 = omega arith in rw z (omega arith)
+joined-rises t j (suc k) h =
+    elim (ℕ-discrete j (suc k)) [
+      | yes p ↦ rw p (omega arith)
+      | no n ↦ omega (arith, joined-rises t j k (omega arith), length-append (joined t k) (t k))
+    ]
+
+pub record Joining (t : ℕ → List ℕ) (n : ℕ) (old : List ℕ) (a : ℕ) (new : List ℕ) (next k : ℕ) : Type 0 where
+  pub within : k ≤ n
+  pub wrote : Wrote old a (joined t k) new next
+
+pub joining-start : (t : ℕ → List ℕ) (n : ℕ) (old : List ℕ) (a : ℕ) → a ≤ length old → Joining t n old a old a 0
+unfolding joined
+joining-start t n old a h = record { within = omega arith; wrote = wrote-none old a h }
+
+module _ {t : ℕ → List ℕ} {n : ℕ} {old : List ℕ} {a : ℕ} {new : List ℕ} {next k : ℕ} (g : Joining t n old a new next k) where
   -- where all have room, the next has room after those before it
-  pub pieces-room : {old : List ℕ} {a : ℕ} {new : List ℕ} {b : ℕ} (k m : ℕ) → Wrote old a (first k) new b → k < m
-      → a + length (first m) ≤ length old → b + length (piece k) ≤ length new
-  pieces-room {old} {a} k m w h r =
-      room-then w (piece k) (rw (← step k) (omega (arith, pieces-rise (suc k) m h)))
+  pub joining-room : k < n → a + length (joined t n) ≤ length old → next + length (t k) ≤ length new
+  joining-room h r = room-then (g .wrote) (t k) (rw (← joined-next t k) (omega (arith, joined-rises t (k + 1) n (omega arith))))
+
+  pub joining-next : k < n → {then : List ℕ} {after : ℕ} → Wrote new next (t k) then after → Joining t n old a then after (k + 1)
+  joining-next h w = record { within = omega arith; wrote = rw (joined-next t k) (wrote-then (g .wrote) w) }
+
+  pub joining-end : n ≤ k → Wrote old a (joined t n) new next
+  joining-end h = let p : k ≡ n = omega (arith, g .within) in rw p at (g .wrote)
 
 -- A TEXT PART BY PART: what was written so far and what is left are the whole
 pub record Partway (old : List ℕ) (a : ℕ) (whole left new : List ℕ) (next : ℕ) : Type 0 where

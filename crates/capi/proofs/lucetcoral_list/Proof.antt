@@ -7,7 +7,7 @@ use Rattle.capi.proofs.lucetcoral_list.Tie as tie
 
 returns : tie.Need-returns
 returns c =
-    let w = c .before .before .before .before .write-listing .ensures in
+    let w = c .before .before .before .before .write-report .ensures in
     let g = given (λ (x : ℕ). x) 0 _ _ _ _ _ _ (w .0) (c .give-size .ensures .0) (c .give-size .ensures .1) in
     record { answers = g .answers; text-is = w .1; written-is = g .lent-is }
 

@@ -48,5 +48,5 @@ write-cards-spec =
     (λ c. omega (arith, good-length _ (c .before .before .before .before .before .before .before .before .before .before .pre .0)))
     (search needs)
     loop-again
-    (λ c. wrote-length (c .before .loop .inv .wrote))
+    (λ c. wrote-length (c .before .loop .inv .lines .wrote))
     (λ c. cards-end (c .before .loop .inv) (omega arith)))

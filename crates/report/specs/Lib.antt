@@ -1,0 +1,10 @@
+-- Reports of a tune book (SPECIFICATION 9.1 and 9.3). In reading order.
+-- Definitions
+pub mod Reports
+-- How long a report is
+pub mod Sizes
+-- What a report is, by what Open says; and what a caller learns from the answer
+pub mod Answers
+-- The example: its listing, and its wear
+pub mod Example
+pub mod WearExample
