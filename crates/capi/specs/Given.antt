@@ -1,6 +1,6 @@
 -- What is given follows from the operations' answers.
--- Main: unless-none, unless-same, reply-given, given, refused-given, value-given, part-refused, part-given; reads-refused, reads-strike; lists-refused, lists-tune;
--- pulled-short.
+-- Main: unless-none, unless-same, reply-given, given, refused-given, value-given, part-refused, part-given; reads-refused, reads-strike;
+-- lists-refused, lists-tune; pulled-short.
 use mathlib.Core.Path.{_≡_, refl, sym, ap, _∙_}
 use mathlib.Core.Bool.{Bool, true, false, cond}
 use mathlib.Core.List.{List}

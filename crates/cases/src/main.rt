@@ -1,6 +1,6 @@
 // Runs calls of the operations, one a line of standard input, and prints a line for what comes of each. A call is the number of the
-// operation, then k, masks, the number of a tune or a card, a place or a width if it takes them, then its lists, each as its length and its values. What comes of it
-// is the status, 0 or the refusal, then the numbers given back, then the lists that were lent to be filled.
+// operation, then k, masks, the number of a tune or a card, a place or a width if it takes them, then its lists, each as its length and its values.
+// What comes of it is the status, 0 or the refusal, then the numbers given back, then the lists that were lent to be filled.
 // Assumes what `io` and `libc` assume of reading and writing; of the input, at most 131,072 bytes are read.
 mod books;
 mod code;

@@ -3,8 +3,8 @@
 -- book/Layout and book/Open; for dead lines also with dead_lines/Struck and `ones` of rank/Mask; for Write with strike/Turns, writer/Writing and
 -- `Shows` of writer/Shown; for the cable with levels/Levels and `Sent` of levels/Received. What holds of written books is `Books-say`
 -- (WrittenBooks). Answers are replies (refusal/Replies): `outcome`, `reply`, `weight-reply` (rank/Weight), `read-reply` (book/Reading), `worn-reply`
--- (book/Bodies), `wear-reply` (wear/Wear) and `signed-reply` (cable/Operations) give them for each case of an enum. A message or a list mu that is named here is the only one of
--- its kind.
+-- (book/Bodies), `wear-reply` (wear/Wear) and `signed-reply` (cable/Operations) give them for each case of an enum. A message or a list mu that is
+-- named here is the only one of its kind.
 -- Main: Code-says, Press-says, Weigh-says, Test-says, Mend-says, Mend-dead-says, Mends-alike, Open-says, Pull-says, Read-says, Length-says,
 -- Worn-says, Wear-says, Write-says, Size-says, Cable-says, Signed-says, Symbol-says, Levels-says, Symbols-says, Receive-says, Mends-sent.
 --

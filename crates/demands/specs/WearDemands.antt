@@ -2,14 +2,13 @@
 -- Main: wear-says.
 use mathlib.Core.Path.{_≡_, refl, sym, ap, _∙_}
 use mathlib.Core.Logic.{_⊎_, inl, inr}
-use mathlib.Core.Bool.{Bool, true, false, _||_, not, cond}
+use mathlib.Core.Bool.{Bool, true, false}
 use mathlib.Core.List.{List}
-use Prim.Native.Nat.{ℕ, zero, suc, _+_, _≤_, _<_}
+use Prim.Native.Nat.{ℕ, zero, suc, _+_, _≤_}
 use native.Mathlib.Decide.{ℕ-discrete}
 use native.Mathlib.Omega.{arith}
-use lib.Dec.{ltb, eqb}
 use borrow.Author.Tests.{eq-eqb, ne-eqb}
-use Rattle.refusal.specs.Replies.{Reply, replied, refused-with, reply-with}
+use Rattle.refusal.specs.Replies.{Reply, reply-with}
 use Rattle.book.specs.Layout.{body-good}
 use Rattle.book.specs.Reading.{Card-value, cards-in, reading}
 use Rattle.wear.specs.declared.runs.Wear.{Wear}

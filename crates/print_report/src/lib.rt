@@ -9,28 +9,35 @@ use refusal::Answer;
 use report::Kind;
 use streams::Input;
 
-// Prints the report on a book. The book is taken for the premise alone: a caller can hand over no other text. That this text is what is
-// printed stands in the one line below, as no contract can say what is written.
-fn print_text(kind: Kind, book: &[u8], text: &[u8])
+// Prints the report on a book, and answers how many of its bytes were taken. The book is taken for the premise alone: a caller can hand over no
+// other text. That this text is what is printed stands in the one line below, as no contract can say what is written.
+fn print_text(kind: Kind, book: &[u8], text: &[u8]) -> usize
     requires { ⌜ now text ≡ report kind (now book) ⌝ }
+    ensures { λ r. ⌜ r ≤ length (report kind (now (book .entry))) ⌝ }
 {
-    streams::print(text);
+    streams::print(text)
 }
 
-// Reports on a book. The text is lent for its report.
-fn print(kind: Kind, book: &[u8], text: &mut [u8])
+// Reports on a book, and answers the same. The text is lent for the report.
+fn print(kind: Kind, book: &[u8], text: &mut [u8]) -> usize
     requires { ⌜ longest ≤ length (now text) ⌝ }
+    ensures { λ r. ⌜ r ≤ length (report kind (now (book .entry))) ⌝ }
 {
-    if let Answer::Value(size) = report::write_report(kind, book, text) {
-        print_text(kind, book, &text[..size as usize]);
+    match report::write_report(kind, book, text) {
+        Answer::Refused(_) => 0,
+        Answer::Value(size) => print_text(kind, book, &text[..size as usize]),
     }
 }
 
-// Reads a book, and prints its report. A book has at most 65,536 bytes: one byte more says that there is more.
-pub fn run(kind: Kind, usage: &[u8]) {
+// Reads a book and prints its report: how many bytes were taken, 0 if there was nothing to read. A book has at most 65,536 bytes: one byte more
+// says that there is more.
+pub fn run(kind: Kind, usage: &[u8]) -> usize
+    ensures { λ r. ⌜ r ≤ longest ⌝ }
+{
     let mut buffer = [0u8; 65537];
     let mut text = [0u8; 131072];
-    if let Input::Bytes(n) = streams::read_book(usage, &mut buffer) {
-        print(kind, &buffer[..n], &mut text);
+    match streams::read_book(usage, &mut buffer) {
+        Input::Failed => 0,
+        Input::Bytes(n) => print(kind, &buffer[..n], &mut text),
     }
 }

@@ -1,6 +1,6 @@
 -- What a report is, by what Open says of the book; and what a caller learns from the answer.
 -- Main: report-accepted, opened-refused; kind-listing, kind-wear; answer-within, answer-reported, report-read.
-use mathlib.Core.Path.{_≡_, refl, sym, _∙_, ap}
+use mathlib.Core.Path.{_≡_, sym, _∙_, ap}
 use mathlib.Core.List.{List}
 use Prim.Native.Nat.{ℕ, _≤_, _<_}
 use native.Mathlib.Decide.{decLt}

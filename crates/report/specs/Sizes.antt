@@ -1,5 +1,5 @@
 -- How long a report is: at most two bytes for each byte of the book, so none is longer than `longest`.
--- Main: report-within.
+-- Main: report-within, taken-within.
 use mathlib.Core.Path.{_≡_, refl}
 use mathlib.Core.Bool.{Bool, true, false, cond}
 use mathlib.Core.List.{List}
@@ -54,3 +54,7 @@ report-within k bs = go (eqb (open-refusal bs) 0) refl
     go : (b : Bool) → eqb (open-refusal bs) 0 ≡ b → length (cond b (joined (tune-report k bs) (tunes bs)) (book-refused (open-refusal bs))) ≤ longest
     go true e = tunes-within bs (eqb-true (open-refusal bs) 0 e) k
     go false e = refused-within bs
+
+-- nor is what was taken of one
+pub taken-within : (k : Kind) (bs : List ℕ) (n : ℕ) → n ≤ length (report k bs) → n ≤ longest
+taken-within k bs n h = omega (arith, report-within k bs)

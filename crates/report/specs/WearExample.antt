@@ -1,10 +1,8 @@
 -- The wear of the body of SPECIFICATION 12.6, and the wear report of its book, from the definitions.
 -- Main: cards-wear, worst-one, worst-two, worst-four, example-worn.
 use mathlib.Core.Path.{_≡_, refl, _∙_}
-use mathlib.Core.List.{List}
-use Prim.Native.Nat.{ℕ}
 use Rattle.algebra.specs.Search.{first-from}
-use Rattle.book.specs.Layout.{big, tunes, tune-number, cards}
+use Rattle.book.specs.Layout.{big, tunes}
 use Rattle.wear.specs.Wear.{reading-wear, card-wear, run-sum, largest, first-largest, worst-run}
 use Rattle.text.specs.Text.{ascii, decimal-from, decimal, joined}
 use Rattle.wear_lines.specs.WearLines.{short-line, wear-line}

@@ -1,6 +1,7 @@
 -- Bytes stored in a list that was lent, from a place on. What is written after what was written is one text.
 -- Main: written-front; Wrote, wrote-none, wrote-byte, wrote-then, wrote-length, wrote-whole; copying-start, copying-next, copying-end; room-then;
--- joined-next, Joining, joining-start, joining-room, joining-next, joining-end; Partway, partway-start, partway-next, partway-room, partway-end; room-short, room-enough.
+-- joined-next, Joining, joining-start, joining-room, joining-next, joining-end; Partway, partway-start, partway-next, partway-room, partway-end;
+-- room-short, room-enough.
 use mathlib.Core.Path.{_≡_, refl, sym, _∙_, ap}
 use mathlib.Core.List.{List, [], _∷_, _++_, append-assoc, append-nil}
 use Prim.Native.Nat.{ℕ, zero, suc, _+_, _≤_, _<_}

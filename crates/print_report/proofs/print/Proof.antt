@@ -1,4 +1,5 @@
--- `print_report::print` prints the report: it is as long a part of the text as was answered. Assumes what `os`, `io` and `libc` assume.
+-- `print_report::print` meets its contract: what is printed is as long a part of the text as was answered, which is the report. Assumes what `os`,
+-- `io` and `libc` assume.
 use mathlib.Core.Path.{sym}
 use native.Mathlib.Omega.{arith}
 use borrow.Author.Needs.{needs}
@@ -24,10 +25,10 @@ print-spec =
     (λ c κs. search needs)
     (λ c. search needs)
     (λ c. search needs)
+    (λ c. search needs)
     within
     (λ c. sym (length-take-le _ _ (within (c .before))))
     print-text-requires
-    (λ c. search needs)
     (λ c. search needs)
     (λ c. search needs)
     (λ c. search needs)

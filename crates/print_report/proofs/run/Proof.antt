@@ -1,9 +1,10 @@
--- `print_report::run` is safe: the buffer has room for a byte more than a book, the text for the longest report, and what was read is within
--- the buffer. Assumes what `os`, `io` and `libc` assume.
+-- `print_report::run` meets its contract: the buffer has room for a byte more than a book, the text for the longest report, and what was read is
+-- within the buffer. Assumes what `os`, `io` and `libc` assume.
 use mathlib.Core.Path.{sym}
 use borrow.Author.Needs.{needs}
 use lib.Seq.{length-take-le}
 use Rattle.streams.specs.Inputs.{bytes-within}
+use Rattle.report.specs.Sizes.{taken-within}
 use Rattle.print_report.proofs.run.Statement.{statement}
 use Rattle.print_report.proofs.run.Tie as tie
 
@@ -19,10 +20,10 @@ run-spec =
     (λ c. search needs)
     (λ c κs. search needs)
     (λ c. search needs)
+    (λ c. search needs)
     array-share-prefix-buffer
     (λ c. sym (length-take-le _ _ (array-share-prefix-buffer (c .before))))
     (λ c. search needs)
     (λ c κs. search needs)
     (λ c. search needs)
-    (λ c. search needs)
-    (λ c. search needs))
+    (λ c. taken-within _ _ _ (c .before .print .ensures)))
