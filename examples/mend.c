@@ -5,7 +5,7 @@
 enum { K = LUCETCORAL_STRIKE_K, SYMBOLS = LUCETCORAL_CARD_SYMBOLS, VALUES = LUCETCORAL_MESSAGE_VALUES(K) };
 
 int main(void) {
-    const uint16_t strike[VALUES] = {12, 7, 1, 5}; /* bell 12, force 7, delay 27 + 5 ticks */
+    const uint16_t strike[VALUES] = {12, 9 * 1 + 7, 1, 5}; /* register 1: bell 27 + 12, force 7, delay 27 + 5 ticks */
     uint16_t card[SYMBOLS], word[SYMBOLS], message[VALUES];
     uint32_t distance = 0;
     uint32_t refusal = lucetcoral_encode(K, strike, VALUES, card, SYMBOLS);
@@ -25,7 +25,7 @@ int main(void) {
         printf("decode refused %u\n", (unsigned)refusal);
         return 1;
     }
-    printf("bell %u force %u delay %u damage %u\n", (unsigned)message[0], (unsigned)message[1], 27u * message[2] + message[3],
+    printf("bell %u force %u delay %u damage %u\n", 27u * (message[1] / 9u) + message[0], message[1] % 9u, 27u * message[2] + message[3],
            (unsigned)distance);
     return 0;
 }

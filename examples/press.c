@@ -9,8 +9,8 @@ enum { TUNES = 2, CARDS = 5 };
 static const uint16_t numbers[TUNES] = {7, 12};
 static const uint16_t counts[TUNES] = {2, 3};
 static const uint16_t strikes[3 * CARDS] = {
-    4, 16, 24, 5, 12, 24,           /* tune 7: bell, force and delay of two cards */
-    8, 20, 24, 0, 0,  12, 7, 14, 18 /* tune 12: three cards, the second a rest */
+    4, 6, 24, 5, 4, 24,           /* tune 7: bell, force and delay of two cards */
+    8, 7, 24, 0, 0, 12, 34, 5, 18 /* tune 12: three cards, the second a rest */
 };
 
 static uint8_t book[LUCETCORAL_BOOK_MAX];

@@ -36,7 +36,7 @@ extern "C" {
 /* The version of this interface. As long as MAJOR is 0, MINOR is raised by every change of what a call takes, answers or refuses and of every
    name or number below, PATCH by all other changes. The archive holds no version of its own. */
 #define LUCETCORAL_VERSION_MAJOR 0
-#define LUCETCORAL_VERSION_MINOR 7
+#define LUCETCORAL_VERSION_MINOR 8
 #define LUCETCORAL_VERSION_PATCH 0
 
 /* What a function returns (section 7). */
@@ -52,9 +52,10 @@ enum lucetcoral_refusal {
     LUCETCORAL_LAYOUT = 7,        /* a tune has no cards, or the bodies do not adjoin from the contents to the end of the book */
     LUCETCORAL_NO_SUCH_TUNE = 8,  /* the book has no tune of that number, or at that place */
     LUCETCORAL_NO_SUCH_CARD = 9,  /* the card number is 0, or past the last */
-    LUCETCORAL_STRIKE_FIELD = 10, /* a bell or a force is above 26, or a delay above 728 */
+    LUCETCORAL_STRIKE_FIELD = 10, /* a bell is above 47, a force above 8, or a delay above 728 */
     LUCETCORAL_DEAD_LINES = 11,   /* more lines are dead than 6 - k */
-    LUCETCORAL_WIDTH = 12         /* the width of a run is 0, above 64, or above the count of cards */
+    LUCETCORAL_WIDTH = 12,        /* the width of a run is 0, above 64, or above the count of cards */
+    LUCETCORAL_NO_SUCH_BELL = 13  /* the bell of a card is above 47 */
 };
 
 /* The code (sections 1 to 4). */
@@ -82,10 +83,10 @@ enum lucetcoral_refusal {
 #define LUCETCORAL_TUNE_NUMBER_MAX 9999
 #define LUCETCORAL_WIDTH_MAX 64   /* cards of a run */
 
-/* Strikes (section 6). */
+/* Strikes (section 6). The message of a strike has the values bell % 27, 9 * (bell / 27) + force, delay / 27 and delay % 27. */
 #define LUCETCORAL_STRIKE_K 2 /* the k of all cards in books */
-#define LUCETCORAL_BELL_MAX 26
-#define LUCETCORAL_FORCE_MAX 26
+#define LUCETCORAL_BELL_MAX 47
+#define LUCETCORAL_FORCE_MAX 8
 #define LUCETCORAL_DELAY_MAX 728
 #define LUCETCORAL_TICK_MILLISECONDS 20
 
@@ -133,12 +134,12 @@ uint32_t lucetcoral_tune_body(const uint8_t *book, size_t book_len, uint32_t num
    5, 6, 7, 8. */
 uint32_t lucetcoral_tune_at(const uint8_t *book, size_t book_len, uint32_t place, uint32_t *number, uint32_t *cards);
 
-/* Read (8.9): card `number`, counted from 1, of a body: a strike and the rank of its damage. 2, 9, 3, 4. */
+/* Read (8.9): card `number`, counted from 1, of a body: a strike and the rank of its damage. 2, 9, 3, 4, 13. */
 uint32_t lucetcoral_read_card(const uint8_t *body, size_t body_len, uint32_t number, uint32_t *bell, uint32_t *force, uint32_t *delay,
                               uint32_t *damage);
 
-/* Length (8.10): the sum of the delays of all cards of a body, in ticks. 2; then the refusal of the first card that Read refuses, 3 or 4: a body with
-   such a card has no length, and `ticks` stays as it was. */
+/* Length (8.10): the sum of the delays of all cards of a body, in ticks. 2; then the refusal of the first card that Read refuses, 3, 4 or 13: a body
+   with such a card has no length, and `ticks` stays as it was. */
 uint32_t lucetcoral_total_delay(const uint8_t *body, size_t body_len, uint32_t *ticks);
 
 /* Worn (8.11): the lowest number of a card of a body that Read refuses or gives a damage of 1 or more; 0 exactly if there is none. 2. */

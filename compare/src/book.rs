@@ -3,6 +3,7 @@
 
 use crate::code::{decode, Card};
 use crate::refusal::Refusal;
+use crate::strike::meaning;
 use std::collections::HashMap;
 use std::fmt::Write;
 use std::ops::Range;
@@ -258,14 +259,14 @@ fn strike(card: &Card) -> Result<Strike, Refusal> {
     if let Some(answer) = known().as_ref().and_then(|map| map.get(card)) {
         return *answer;
     }
-    let answer = decode(2, card, 6, 4).map(|decoded| {
-        let values: Vec<u32> = decoded.message.iter().map(|m| u32::from(*m)).collect();
-        Strike {
-            bell: values[0],
-            force: values[1],
-            delay: 27 * values[2] + values[3],
+    let answer = decode(2, card, 6, 4).and_then(|decoded| {
+        let [bell, force, delay] = meaning(&decoded.message)?.map(u32::from);
+        Ok(Strike {
+            bell,
+            force,
+            delay,
             damage: decoded.distance,
-        }
+        })
     });
     known()
         .get_or_insert_with(HashMap::new)

@@ -46,9 +46,10 @@ static POINT_LOGS: [[u16; 6]; 6] = point_logs();
 /// The small number of x + x^27, by a logarithm of x.
 static TRACES: [u8; 2 * LOG_ZERO as usize + 1] = traces();
 /// The words for k = 2 of a bell, of a force, and of a delay, with zeros for
-/// the rest of the strike: a strike's word is the sum of its three.
-static BELL_WORDS: [Card; 27] = words(0, 0);
-static FORCE_WORDS: [Card; 27] = words(1, 0);
+/// the rest of the strike: a strike's word is the sum of its three. (The bell
+/// and the force share value 1 of the message, but none of its digits.)
+static BELL_WORDS: [Card; 48] = bell_words();
+static FORCE_WORDS: [Card; 9] = words(1, 0);
 static DELAY_WORDS: [Card; 729] = delay_words();
 /// A logarithm times entry i is that of the power 3^i.
 const CUBINGS: [usize; 6] = [1, 3, 9, 27, 81, 243];
@@ -229,13 +230,13 @@ const fn traces() -> [u8; 2 * LOG_ZERO as usize + 1] {
     table
 }
 
-/// The words of the polynomials c·v·y^(3^i), by the small numbers v, for the
-/// logarithm of c.
-const fn words(i: usize, log: usize) -> [Card; 27] {
+/// The words of the polynomials c·v·y^(3^i), by the first small numbers v, for
+/// the logarithm of c.
+const fn words<const COUNT: usize>(i: usize, log: usize) -> [Card; COUNT] {
     let (powers, logs, small) = (powers(), logs(), small_numbers());
-    let mut table = [[0; 6]; 27];
+    let mut table = [[0; 6]; COUNT];
     let mut entry = 6;
-    while entry < 27 * 6 {
+    while entry < COUNT * 6 {
         let (value, s) = (entry / 6, entry % 6);
         let product = logs[place(small[value])] as usize + log + s * CUBINGS[i];
         table[value][s] = powers[product % ORDER];
@@ -244,8 +245,20 @@ const fn words(i: usize, log: usize) -> [Card; 27] {
     table
 }
 
+const fn bell_words() -> [Card; 48] {
+    let (low, second): ([Card; 27], [Card; 27]) = (words(0, 0), words(1, 0));
+    let mut table = [[0; 6]; 48];
+    let mut entry = 0;
+    while entry < 48 * 6 {
+        let (bell, s) = (entry / 6, entry % 6);
+        table[bell][s] = add(low[bell % 27][s], second[9 * (bell / 27)][s]);
+        entry += 1;
+    }
+    table
+}
+
 const fn delay_words() -> [Card; 729] {
-    let (high, low) = (words(1, 1), words(2, 1));
+    let (high, low): ([Card; 27], [Card; 27]) = (words(1, 1), words(2, 1));
     let mut table = [[0; 6]; 729];
     let mut entry = 0;
     while entry < 729 * 6 {
@@ -449,10 +462,16 @@ struct Decoded {
     distance: u32,
 }
 
-fn decode(k: usize, received: Card) -> Result<Decoded, Refusal> {
+/// The word within the radius, and its distance.
+fn nearest(k: usize, received: Card) -> Result<(Card, u32), Refusal> {
     let found = search(&State::start(received), k, 0, &[], radius(k));
     let (error, distance) = found.ok_or(Refusal::Undecodable)?;
     let word = std::array::from_fn(|s| sub(received[s], error[s]));
+    Ok((word, distance))
+}
+
+fn decode(k: usize, received: Card) -> Result<Decoded, Refusal> {
+    let (word, distance) = nearest(k, received)?;
     let word_logs = logs_of(&word);
     Ok(Decoded {
         word,
@@ -596,16 +615,32 @@ fn card_of_bytes(bytes: &[u8; 12]) -> Result<Card, Refusal> {
 /// The bell, the force, the delay and the damage.
 fn strike(bytes: &[u8; 12]) -> Result<[u32; 4], Refusal> {
     let decoded = decode(2, card_of_bytes(bytes)?)?;
-    let [bell, force, high, low, ..] = decoded.message.map(u32::from);
-    Ok([bell, force, 27 * high + low, decoded.distance])
+    let [first, second, high, low, ..] = decoded.message.map(u32::from);
+    let bell = bell(first, second)?;
+    Ok([bell, second % 9, 27 * high + low, decoded.distance])
+}
+
+/// The bell of a message's first two values.
+fn bell(first: u32, second: u32) -> Result<u32, Refusal> {
+    match 27 * (second / 9) + first {
+        bell if bell > 47 => Err(Refusal::NoSuchBell),
+        bell => Ok(bell),
+    }
+}
+
+/// The damage of a card that is read. Of its strike only the bell is worked
+/// out.
+fn damage(bytes: &[u8; 12]) -> Result<u32, Refusal> {
+    let (word, distance) = nearest(2, card_of_bytes(bytes)?)?;
+    let word_logs = logs_of(&word);
+    let value = |i: usize| PAIRS[place(coefficient(&word_logs, i))][0].into();
+    bell(value(0), value(1))?;
+    Ok(distance)
 }
 
 /// What a card weighs in a run: the rank of its damage, or 3 if it is refused.
-/// Its strike is not needed.
 fn card_weight(bytes: &[u8; 12]) -> u32 {
-    let card = card_of_bytes(bytes).ok();
-    let found = card.and_then(|card| search(&State::start(card), 2, 0, &[], radius(2)));
-    found.map_or(3, |(_, rank)| rank)
+    damage(bytes).unwrap_or(3)
 }
 
 /// The largest sum over so many cards in a row, and the number of the first
@@ -750,8 +785,9 @@ fn book_size(counts: &[u16]) -> Result<usize, Refusal> {
 /// Each number, taken as bell, force and delay by turns, is in its range.
 fn check_fields(strikes: &[u16]) -> Result<(), Refusal> {
     let (strikes, rest) = strikes.as_chunks();
-    let is_wrong = |[bell, force, delay]: &[u16; 3]| *bell > 26 || *force > 26 || *delay > 728;
-    match strikes.iter().any(is_wrong) || rest.iter().any(|field| *field > 26) {
+    let is_wrong = |[bell, force, delay]: &[u16; 3]| *bell > 47 || *force > 8 || *delay > 728;
+    let rest_is_wrong = rest.iter().zip([47, 8]).any(|(field, most)| *field > most);
+    match strikes.iter().any(is_wrong) || rest_is_wrong {
         true => Err(Refusal::StrikeField),
         false => Ok(()),
     }
@@ -939,7 +975,7 @@ impl Library for Fast {
 
     #[inline(never)]
     fn damaged_card(body: &[u8], card: &mut u32) -> u32 {
-        let is_damaged = |card: &[u8; 12]| strike(card).map_or(true, |strike| strike[3] > 0);
+        let is_damaged = |card: &[u8; 12]| damage(card) != Ok(0);
         status(|| {
             let place = cards(body)?.iter().position(is_damaged);
             *card = place.map_or(0, |place| place as u32 + 1);

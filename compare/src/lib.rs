@@ -18,6 +18,7 @@ pub mod random;
 pub mod rank;
 pub mod refusal;
 pub mod samples;
+pub mod strike;
 pub mod text;
 pub mod vectors;
 pub mod writer;

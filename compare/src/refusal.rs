@@ -27,6 +27,8 @@ pub enum Refusal {
     DeadLines = 11,
     /// A width is 0, over 64, or over the count of cards.
     Width = 12,
+    /// A card's bell is over the largest.
+    NoSuchBell = 13,
 }
 
 impl Refusal {

@@ -7,9 +7,10 @@ use crate::digits::Digits;
 use crate::field::{of_small, SMALL_NUMBERS, SYMBOLS};
 use crate::random::Random;
 use crate::rank::{rank, square, symbols, Square};
-use crate::writer::{Tunes, LARGEST_FIELDS};
+use crate::strike::{self, Fields, LARGEST_FIELDS, LARGEST_MESSAGE_BELL};
+use crate::writer::Tunes;
 
-pub use crate::writer::{body, book};
+pub use crate::writer::{body, book, card as strike_card};
 
 /// The cards of the paper's book: two without damage, one with damage of rank
 /// 1, and one that is refused.
@@ -62,23 +63,42 @@ pub fn damaged(random: &mut Random, card: &code::Card, damage: u32) -> code::Car
 
 /// A strike card with the widest values, and damage.
 pub fn widest_card(random: &mut Random) -> code::Card {
-    let word = code::encode(2, &[26; 4], 6).expect("a message");
-    damaged(random, &word, 2)
+    damaged(random, &strike_card(LARGEST_FIELDS), 2)
 }
 
 /// The book with the longest listing: as many tunes as there can be, each of a
 /// refused card, with high numbers; and for the last one the widest card too.
 pub fn longest_listing() -> Vec<u8> {
-    let refused = [729; 6];
+    let refused = strike_card([LARGEST_FIELDS[0] + 1, 0, 0]);
     let numbers = 9_999 - 3_275..=9_999;
     let mut tunes: Vec<(u16, Vec<u8>)> = numbers.map(|n| (n, body(&[refused]))).collect();
     tunes[3_275].1 = body(&[refused, widest_card(&mut Random::new(6))]);
     book(&tunes)
 }
 
-/// A random message's word with an error of the given rank.
+/// A random message's word with an error of the given rank. For k = 2 four of
+/// ten messages have a bell over the largest.
 pub fn sent(random: &mut Random, k: u32, damage: u32) -> Sent {
     let message = message(random, k);
+    sent_message(random, k, message, damage)
+}
+
+/// The same for k = 2, of a message that means a strike.
+pub fn sent_strike(random: &mut Random, damage: u32) -> Sent {
+    let message = strike::message(fields(random));
+    sent_message(random, 2, message.to_vec(), damage)
+}
+
+/// The same for k = 2, of a message with a bell over the largest.
+pub fn sent_no_bell(random: &mut Random, damage: u32) -> Sent {
+    let [last, ..] = LARGEST_FIELDS;
+    let over = 1 + random.below(u64::from(LARGEST_MESSAGE_BELL - last)) as u16;
+    let [_, force, delay] = fields(random);
+    let message = strike::message([last + over, force, delay]);
+    sent_message(random, 2, message.to_vec(), damage)
+}
+
+fn sent_message(random: &mut Random, k: u32, message: Vec<u16>, damage: u32) -> Sent {
     let word = code::encode(k, &message, 6).expect("a message");
     let received = damaged(random, &word, damage);
     Sent {
@@ -212,12 +232,14 @@ pub fn signed_junk(random: &mut Random, count: usize) -> Vec<i16> {
     (0..count).map(|_| random.bits() as i16).collect()
 }
 
+/// A strike, with fields in their ranges.
+fn fields(random: &mut Random) -> Fields {
+    LARGEST_FIELDS.map(|most| random.below(u64::from(most) + 1) as u16)
+}
+
 /// So many strikes, in their ranges.
 pub fn strikes(random: &mut Random, count: usize) -> Vec<u16> {
-    let largest = LARGEST_FIELDS.iter().cycle().take(3 * count);
-    largest
-        .map(|most| random.below(u64::from(*most) + 1) as u16)
-        .collect()
+    (0..count).flat_map(|_| fields(random)).collect()
 }
 
 /// So many tune numbers, rising from 1 at least to 9,999 at most.

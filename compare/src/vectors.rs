@@ -3,7 +3,7 @@
 
 use crate::cable;
 use crate::call::Call;
-use crate::code::Card;
+use crate::code::{self, Card};
 use crate::random::Random;
 use crate::samples::{self, junk, signed_junk, Masks, PAPER_CARDS};
 use crate::writer::{book_size, Tunes};
@@ -29,6 +29,9 @@ pub fn calls(seed: u64) -> Vec<Call> {
     }
     calls.extend(book_calls(random));
     calls.extend(body_calls(random));
+    calls.extend(hole_calls());
+    calls.extend(bell_calls(random));
+    calls.extend(no_bell_calls(random));
     calls.extend(place_calls(random));
     calls.extend(write_calls(random));
     calls.extend(size_calls());
@@ -281,9 +284,10 @@ fn wrong_lengths(random: &mut Random, k: u32) -> Vec<Call> {
     calls
 }
 
+/// Cards that are read without damage.
 fn words(random: &mut Random, count: usize) -> Vec<Card> {
     (0..count)
-        .map(|_| samples::sent(random, 2, 0).word)
+        .map(|_| samples::sent_strike(random, 0).word)
         .collect()
 }
 
@@ -327,20 +331,6 @@ fn body_calls(random: &mut Random) -> Vec<Call> {
         calls.extend([1 + place as u32, 1, 4].map(|number| read_card(&body, number)));
         calls.extend([total_delay(&body), damaged_card(&body)]);
     }
-    // A mended card and a refused one, either before the other; and two that
-    // are refused for another reason each.
-    let [whole, mended, outside] = [1, 2, 729].map(|first| [first, 3, 9, 27, 81, 243]);
-    let far = [1, 3, 9, 0, 0, 0];
-    for cards in [
-        [whole, mended, outside],
-        [whole, outside, mended],
-        [whole, far, outside],
-        [mended, outside, far],
-        [whole, mended, far],
-    ] {
-        let body = samples::body(&cards);
-        calls.extend([total_delay(&body), damaged_card(&body)]);
-    }
     let body = samples::body(&words(random, 3));
     for len in [0, 1, 11, 12, 13, 24, 35] {
         let body = &body[..len];
@@ -349,6 +339,78 @@ fn body_calls(random: &mut Random) -> Vec<Call> {
     for number in [0, 3, 4, 65_537, u32::MAX] {
         calls.push(read_card(&body, number));
     }
+    calls
+}
+
+/// A mended card and a refused one, either before the other; and two that are
+/// refused for another reason each.
+fn hole_calls() -> Vec<Call> {
+    let [whole, mended, outside] = [1, 2, 729].map(|first| [first, 3, 9, 27, 81, 243]);
+    let far = [1, 3, 9, 0, 0, 0];
+    let no_bell = samples::strike_card([48, 0, 0]);
+    let mut calls = vec![];
+    for cards in [
+        [whole, mended, outside],
+        [whole, outside, mended],
+        [whole, far, outside],
+        [mended, outside, far],
+        [whole, mended, far],
+        [whole, no_bell, mended],
+        [mended, no_bell, whole],
+        [whole, no_bell, far],
+        [whole, far, no_bell],
+        [no_bell, outside, whole],
+        [outside, no_bell, whole],
+        [whole, whole, no_bell],
+    ] {
+        let body = samples::body(&cards);
+        calls.extend([total_delay(&body), damaged_card(&body)]);
+    }
+    calls
+}
+
+/// The last bells of registers and the first, the largest of a strike and the
+/// largest of a message, damaged and whole; and every value 1 of a message, with
+/// values 0 about those that make the largest bell.
+fn bell_calls(random: &mut Random) -> Vec<Call> {
+    let mut calls = vec![];
+    for bell in [26, 27, 47, 48, 53, 54, 80] {
+        for (force, damage) in [(0, 0), (8, 0), (4, 1), (7, 2), (1, 3)] {
+            let card = samples::strike_card([bell, force, 700 + bell % 27]);
+            let body = samples::body(&[samples::damaged(random, &card, damage)]);
+            calls.push(read_card(&body, 1));
+            if force == 8 {
+                calls.extend([total_delay(&body), damaged_card(&body), wear(&body, 1)]);
+            }
+        }
+    }
+    for second in 0..27 {
+        for first in [[20, 21], [0, 26]][usize::from(second % 2)] {
+            let card = code::encode(2, &[first, second, 2, second], 6).expect("a message");
+            calls.push(read_card(&samples::body(&[card]), 1));
+        }
+    }
+    calls
+}
+
+/// A card with a bell over the largest among cards that are read: in each place,
+/// with damage of each rank that is mended; and one with a symbol out of range
+/// besides.
+fn no_bell_calls(random: &mut Random) -> Vec<Call> {
+    let mut calls = vec![];
+    for place in 0..3 {
+        for damage in 0..3 {
+            let mut cards = words(random, 3);
+            cards[place as usize] = samples::sent_no_bell(random, damage).received;
+            let body = samples::body(&cards);
+            calls.extend([1, 2].map(|number| read_card(&body, place + number)));
+            calls.extend([total_delay(&body), damaged_card(&body)]);
+            calls.push(wear(&body, 1 + damage));
+        }
+    }
+    let mut outside = samples::sent_no_bell(random, 0).word;
+    outside[5] = 729;
+    calls.push(read_card(&samples::body(&[outside]), 1));
     calls
 }
 
@@ -395,24 +457,34 @@ fn write_calls(random: &mut Random) -> Vec<Call> {
         [0, 0, 1],
         [0, 0, 5],
         [0, 0, 135],
-        [26, 26, 728],
+        [0, 8, 0],
+        [26, 8, 728],
+        [27, 0, 0],
+        [27, 8, 0],
+        [47, 0, 0],
+        [47, 8, 728],
     ] {
         calls.push(write_book(&tunes(&[7], &[1], &strike)));
     }
     // Each field out of its range, of whole strikes and of a part of one.
     for (place, field) in [
-        (0, 27),
-        (1, 27),
+        (0, 48),
+        (0, 53),
+        (0, 54),
+        (0, 80),
+        (0, 303),
+        (1, 9),
+        (1, 26),
         (2, 729),
         (3, 65_535),
-        (4, 282),
+        (4, 264),
         (5, 65_535),
     ] {
         let mut tunes = samples::tunes(random, &[1, 1]);
         tunes.strikes[place] = field;
         calls.push(write_book(&tunes));
     }
-    for strikes in [&[27][..], &[0, 27], &[26, 26, 728, 27], &[0, 0, 0, 26, 27]] {
+    for strikes in [&[48][..], &[0, 9], &[47, 8, 728, 48], &[0, 0, 0, 47, 9]] {
         calls.push(write_book(&tunes(&[1], &[1], strikes)));
     }
     for numbers in [
@@ -466,12 +538,13 @@ fn wrong_books() -> Vec<Call> {
         calls.push(write_book(&tunes(&[3, 700], &counts, &[1, 2, 3, 4, 5, 6])));
     }
     for (numbers, counts, strikes) in [
-        (&[0][..], &[0, 65_535][..], &[27][..]),
-        (&[0], &[0, 65_535], &[26]),
-        (&[0, 0], &[0, 65_535], &[26]),
-        (&[0, 0], &[0, 5_459], &[26]),
-        (&[1, 2], &[0, 5_459], &[26]),
-        (&[1, 2], &[1, 5_458], &[26]),
+        (&[0][..], &[0, 65_535][..], &[48][..]),
+        (&[0], &[0, 65_535], &[0, 9]),
+        (&[0], &[0, 65_535], &[47, 8]),
+        (&[0, 0], &[0, 65_535], &[47]),
+        (&[0, 0], &[0, 5_459], &[47]),
+        (&[1, 2], &[0, 5_459], &[47]),
+        (&[1, 2], &[1, 5_458], &[47]),
         (&[], &[], &[0, 0, 0]),
     ] {
         calls.push(write_book_of(&tunes(numbers, counts, strikes), 3));
@@ -752,7 +825,8 @@ fn receive_calls(random: &mut Random) -> Vec<Call> {
 }
 
 /// A body of cards near the word of zeros, which are short as text: each with
-/// damage of rank 0, 1 or 2, or refused with 3 or 4.
+/// damage of rank 0, 1 or 2, or refused with 3 or 4. Those of the last kind, which
+/// are refused with 13, are not as short.
 fn worn_body(kinds: &[usize]) -> Vec<u8> {
     let cards = [
         [0; 6],
@@ -760,6 +834,7 @@ fn worn_body(kinds: &[usize]) -> Vec<u8> {
         [1, 3, 0, 0, 0, 0],
         [729, 0, 0, 0, 0, 0],
         [1, 3, 9, 0, 0, 0],
+        samples::strike_card([48, 0, 0]),
     ];
     let picked: Vec<Card> = kinds.iter().map(|kind| cards[*kind]).collect();
     samples::body(&picked)
@@ -787,6 +862,13 @@ fn wear_cases() -> Vec<Call> {
         (&[2, 1, 0], 1),
         (&[2, 3], 1),
         (&[2, 4], 1),
+        (&[5], 1),
+        (&[2, 5], 1),
+        (&[5, 2], 1),
+        (&[4, 5], 1),
+        (&[5, 3, 4], 2),
+        (&[0, 5, 0, 1, 2], 2),
+        (&[0, 2, 1, 0, 5], 3),
         (&[3, 4], 1),
         (&[4, 3], 2),
         (&[1, 0, 1], 1),
@@ -829,7 +911,8 @@ fn wear_refusals() -> Vec<Call> {
 fn wear_calls(random: &mut Random) -> Vec<Call> {
     let mut calls = vec![];
     for width in [1, 2, 3, 8] {
-        let kinds: Vec<usize> = (0..10).map(|_| *random.pick(&[0, 0, 1, 2, 3, 4])).collect();
+        let all = [0, 0, 1, 2, 3, 4, 5];
+        let kinds: Vec<usize> = (0..10).map(|_| *random.pick(&all)).collect();
         calls.push(wear(&worn_body(&kinds), width));
     }
     for width in 1..=3 {

@@ -4,11 +4,9 @@
 use crate::book::{check_tune_numbers, CARD_BYTES, LONGEST_BOOK};
 use crate::code::{encode, length, Card};
 use crate::refusal::Refusal;
+use crate::strike::{self, check_fields, Fields};
 
 const ENTRY_BYTES: usize = 8;
-
-/// The largest bell, force and delay.
-pub const LARGEST_FIELDS: [u16; 3] = [26, 26, 728];
 
 /// Tunes as `write_book` takes them.
 #[derive(Clone, PartialEq, Eq, Debug, Default)]
@@ -51,29 +49,16 @@ pub fn write_book(
     let counts = || counts.iter().map(|count| usize::from(*count));
     length(strikes.len(), 3 * counts().sum::<usize>())?;
     length(book_len, size)?;
-    let mut cards = strikes.chunks_exact(3).map(card);
+    let (strikes, _) = strikes.as_chunks();
+    let mut cards = strikes.iter().map(|strike| card(*strike));
     let bodies = counts().map(|count| body(&cards.by_ref().take(count).collect::<Vec<Card>>()));
     let tunes: Vec<(u16, Vec<u8>)> = numbers.iter().copied().zip(bodies).collect();
     Ok(book(&tunes))
 }
 
-/// Each number, taken as bell, force and delay by turns, is in its range.
-fn check_fields(strikes: &[u16]) -> Result<(), Refusal> {
-    let largest = LARGEST_FIELDS.iter().cycle();
-    match strikes
-        .iter()
-        .zip(largest)
-        .all(|(field, most)| field <= most)
-    {
-        true => Ok(()),
-        false => Err(Refusal::StrikeField),
-    }
-}
-
-/// The card of a bell, a force and a delay.
-fn card(strike: &[u16]) -> Card {
-    let message = [strike[0], strike[1], strike[2] / 27, strike[2] % 27];
-    encode(2, &message, 6).expect("a message")
+/// The card of a strike; and of what would be one, but for its bell.
+pub fn card(strike: Fields) -> Card {
+    encode(2, &strike::message(strike), 6).expect("a message")
 }
 
 /// The bytes of some cards, one after the other.

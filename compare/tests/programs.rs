@@ -208,13 +208,16 @@ fn check_pressing(name: &str, text: &[u8]) -> Pressed {
     pressed
 }
 
-/// Cards with damage of all kinds, and one with a wrong symbol. There are few,
-/// as the reference takes its time for each.
+/// Cards with damage of all kinds, one in four with a bell over the largest, and
+/// one with a wrong symbol. There are few, as the reference takes its time for
+/// each.
 fn some_cards(random: &mut Random) -> Vec<Card> {
-    let mut cards: Vec<Card> = (0..40)
-        .map(|turn| samples::sent(random, 2, turn % 5).received)
-        .collect();
-    cards[7][3] = 729;
+    let sent = |turn: u32| match turn % 4 {
+        3 => samples::sent_no_bell(random, turn % 5),
+        _ => samples::sent_strike(random, turn % 5),
+    };
+    let mut cards: Vec<Card> = (0..40).map(sent).map(|sent| sent.received).collect();
+    cards[6][3] = 729;
     cards
 }
 
@@ -569,7 +572,7 @@ fn some_tunes(random: &mut Random) -> Tunes {
     for list in [&mut tunes.numbers, &mut tunes.strikes] {
         if faulty && random.chance(2) && !list.is_empty() {
             let place = random.below(list.len() as u64) as usize;
-            list[place] = *random.pick(&[0, 26, 27, 728, 729, 9_999, 10_000, 65_535]);
+            list[place] = *random.pick(&[0, 8, 9, 47, 48, 728, 729, 9_999, 10_000, 65_535]);
         }
     }
     tunes
@@ -641,14 +644,14 @@ fn texts_with_mistakes() {
             format!("{mistake}\r\ntune 1\r\n1 2 3\r\n"),
             format!("tune 1\n1 2 3\n{mistake}"),
             format!("# {mistake}\n\n \ntune 1\n1 2 3\n\t{mistake} \n1 2\n"),
-            format!("tune 0\n27 27 729\n{mistake}\n"),
+            format!("tune 0\n48 9 729\n{mistake}\n"),
         ];
         for text in texts {
             let pressed = check_pressing("texts_with_mistakes.txt", text.as_bytes());
             assert!(pressed.err.starts_with("line "), "{text:?}");
         }
     }
-    for text in ["1 2 3", "# x\n\n1 2 3\ntune 1", "27 27 729\ntune"] {
+    for text in ["1 2 3", "# x\n\n1 2 3\ntune 1", "48 9 729\ntune"] {
         let pressed = check_pressing("texts_with_mistakes.txt", text.as_bytes());
         assert!(pressed.err.ends_with(": a strike before the first tune\n"));
     }
@@ -686,7 +689,7 @@ fn odd_texts() {
     let long = "z".repeat(50_000);
     let texts = [
         (
-            format!("tune {zeros}9999\n{zeros}26 {zeros} {zeros}728"),
+            format!("tune {zeros}9999\n{zeros}47 {zeros}8 {zeros}728"),
             "",
         ),
         (format!("tune {nines}\n1 2 3"), "book refused 6\n"),
@@ -723,8 +726,10 @@ fn refused_texts() {
             .collect::<String>()
     };
     let texts = [
-        ("tune 1\n27 0 0\n".to_string(), 10),
-        ("tune 1\n0 27 0\n".to_string(), 10),
+        ("tune 1\n48 0 0\n".to_string(), 10),
+        ("tune 1\n80 8 0\n".to_string(), 10),
+        ("tune 1\n0 9 0\n".to_string(), 10),
+        ("tune 1\n47 8 728\n47 9 728\n".to_string(), 10),
         ("tune 1\n0 0 729\n".to_string(), 10),
         (format!("tune 0\n{}0 0 729\ntune 0\n", strikes(6_000)), 10),
         (format!("tune 1\n{}", strikes(5_461)), 5),

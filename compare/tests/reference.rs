@@ -11,6 +11,7 @@ use compare::random::Random;
 use compare::rank::{rank, square, symbols, Square};
 use compare::refusal::Refusal;
 use compare::samples::{self, Masks, PAPER_CARDS};
+use compare::strike;
 use compare::text::{self, press, LONGEST_TEXT};
 use compare::writer::{book_size, write_book, Tunes};
 use std::collections::HashSet;
@@ -141,15 +142,16 @@ fn listing_case() {
 }
 
 /// The longest listing fits: the most lines to a byte of the book are those
-/// of tunes with one card, and these are longest if the card is refused.
+/// of tunes with one card, and these are longest if the card is refused for its
+/// bell.
 #[test]
 fn longest_listing() {
     let book = samples::longest_listing();
     assert!(book.len() + 12 > book::LONGEST_BOOK);
     let text = book::listing(&book);
-    assert!(text.contains("tune 9998 1\n1 refused 3\nticks unknown\n"));
-    assert!(text.ends_with("tune 9999 2\n1 refused 3\n2 26 26 728 2\nticks unknown\n"));
-    assert_eq!(text.len(), 38 * 3_276 + 14);
+    assert!(text.contains("tune 9998 1\n1 refused 13\nticks unknown\n"));
+    assert!(text.ends_with("tune 9999 2\n1 refused 13\n2 47 8 728 2\nticks unknown\n"));
+    assert_eq!(text.len(), 39 * 3_276 + 13);
     assert!(text.len() <= book::LISTING_MAX);
 }
 
@@ -158,7 +160,12 @@ fn longest_listing() {
 #[test]
 fn hole_case() {
     let (word, far, outside) = ([1, 3, 9, 27, 81, 243], [1, 3, 9, 0, 0, 0], [729; 6]);
+    let no_bell = samples::strike_card([48, 0, 0]);
     let length = |cards: &[Card]| book::total_delay(&samples::body(cards));
+    assert_eq!(length(&[word, no_bell, far]), Err(Refusal::NoSuchBell));
+    assert_eq!(length(&[word, far, no_bell]), Err(Refusal::Undecodable));
+    assert_eq!(length(&[no_bell, outside]), Err(Refusal::NoSuchBell));
+    assert_eq!(length(&[outside, no_bell]), Err(Refusal::Range));
     assert_eq!(length(&[word, far, outside]), Err(Refusal::Undecodable));
     assert_eq!(length(&[word, outside, far]), Err(Refusal::Range));
     assert_eq!(length(&[word, word, far]), Err(Refusal::Undecodable));
@@ -195,7 +202,7 @@ fn wear_case() {
     assert_eq!(heaviest(&twice, 6), Ok([8, 3]));
 }
 
-/// What is refused weighs 3, for both reasons, and rank 2 less.
+/// What is refused weighs 3, for each reason, and rank 2 less.
 #[test]
 fn weights_of_cards() {
     let [two, far, outside] = [[1, 3, 0, 0, 0, 0], [1, 3, 9, 0, 0, 0], [729; 6]];
@@ -207,6 +214,11 @@ fn weights_of_cards() {
     assert_eq!(heaviest(&body[12..], 1), Ok([3, 1]));
     assert_eq!(heaviest(&body[24..], 1), Ok([3, 1]));
     assert_eq!(heaviest(&body[36..], 1), Ok([2, 1]));
+    let no_bell = samples::strike_card([48, 0, 0]);
+    let body = samples::body(&[two, no_bell, far, two]);
+    assert_eq!(heaviest(&body, 1), Ok([3, 2]));
+    assert_eq!(heaviest(&body, 2), Ok([6, 2]));
+    assert_eq!(heaviest(&body[12..24], 1), Ok([3, 1]));
 }
 
 #[test]
@@ -250,6 +262,119 @@ fn delay_case() {
     let word = encode(2, &[0, 0, 5, 0], 6).unwrap();
     assert_eq!(book::total_delay(&samples::body(&[word, word])), Ok(270));
     assert_eq!(book::total_delay(&[]), Ok(0));
+}
+
+/// What is read of the card of a message, with damage of this rank.
+fn read_message(message: &[u16], damage: u32) -> Result<[u32; 4], Refusal> {
+    let word = encode(2, message, 6).unwrap();
+    let card = samples::damaged(&mut Random::new(1), &word, damage);
+    let strike = book::read_card(&samples::body(&[card]), 1)?;
+    Ok([strike.bell, strike.force, strike.delay, strike.damage])
+}
+
+/// Value 1 is the register and the force, and value 0 the rest of the bell.
+#[test]
+fn bell_cases() {
+    let cases = [
+        ([0, 0, 0, 0], [0, 0, 0]),
+        ([1, 0, 0, 0], [1, 0, 0]),
+        ([0, 1, 0, 0], [0, 1, 0]),
+        ([26, 8, 0, 0], [26, 8, 0]),
+        ([0, 9, 0, 0], [27, 0, 0]),
+        ([0, 10, 0, 1], [27, 1, 1]),
+        ([20, 9, 1, 0], [47, 0, 27]),
+        ([20, 17, 26, 26], [47, 8, 728]),
+    ];
+    for (message, strike) in cases {
+        let [bell, force, delay] = strike.map(u32::from);
+        assert_eq!(strike::meaning(&message), Ok(strike));
+        assert_eq!(strike::message(strike), message);
+        for damage in 0..=2 {
+            let read = [bell, force, delay, damage];
+            assert_eq!(read_message(&message, damage), Ok(read));
+        }
+    }
+    // Bells 48, 53, 54 and 80.
+    for message in [[21, 9, 0, 0], [26, 17, 0, 5], [0, 18, 26, 26], [26; 4]] {
+        assert_eq!(strike::meaning(&message), Err(Refusal::NoSuchBell));
+        for damage in 0..=2 {
+            assert_eq!(read_message(&message, damage), Err(Refusal::NoSuchBell));
+        }
+    }
+}
+
+/// Every message has one bell, force and delay, and every strike one message.
+#[test]
+fn all_messages_mean_strikes() {
+    let mut strikes = HashSet::new();
+    for number in 0..27u32.pow(4) {
+        let message = [0, 1, 2, 3].map(|place| (number / 27u32.pow(place) % 27) as u16);
+        let Ok(strike) = strike::meaning(&message) else {
+            assert!(message[1] >= 18 || message[1] >= 9 && message[0] > 20);
+            continue;
+        };
+        assert!(strike.iter().zip([47, 8, 728]).all(|(f, most)| *f <= most));
+        assert_eq!(strike::message(strike), message);
+        assert!(strikes.insert(strike));
+    }
+    assert_eq!(strikes.len(), 48 * 9 * 729);
+}
+
+/// Every pair of values 0 and 1, with some delay and some damage.
+#[test]
+fn all_bells_and_forces_are_read() {
+    let mut random = Random::new(15);
+    for register in 0..3 {
+        for first in 0..27 {
+            for force in 0..9 {
+                let [high, low] = [0, 1].map(|_| random.below(27) as u16);
+                let message = [first, 9 * register + force, high, low];
+                let bell = 27 * register + first;
+                let damage = random.below(3) as u32;
+                let [bell, force, delay] = [bell, force, 27 * high + low].map(u32::from);
+                let read = match bell > 47 {
+                    true => Err(Refusal::NoSuchBell),
+                    false => Ok([bell, force, delay, damage]),
+                };
+                assert_eq!(read_message(&message, damage), read);
+            }
+        }
+    }
+}
+
+/// What is wrong with the body, with the number and with the card's symbols, and
+/// that no word is near, all come before the bell.
+#[test]
+fn no_such_bell() {
+    let word = samples::strike_card([48, 0, 0]);
+    let outside = [729, word[1], word[2], word[3], word[4], word[5]];
+    let far = symbols(square(&word) + square(&[1, 3, 9, 0, 0, 0]));
+    let body = samples::body(&[word, far, outside]);
+    let refused = |body: &[u8], number| book::read_card(body, number).err();
+    assert_eq!(refused(&body[1..], 0), Some(Refusal::Length));
+    assert_eq!(refused(&body[1..], 1), Some(Refusal::Length));
+    assert_eq!(refused(&body, 0), Some(Refusal::NoSuchCard));
+    assert_eq!(refused(&body[..12], 2), Some(Refusal::NoSuchCard));
+    assert_eq!(refused(&body, 3), Some(Refusal::Range));
+    assert_eq!(refused(&body, 2), Some(Refusal::Undecodable));
+    assert_eq!(refused(&body, 1), Some(Refusal::NoSuchBell));
+    assert_eq!(Refusal::NoSuchBell.number(), 13);
+    // The card is mended all the same.
+    let decoded = mend(2, word).unwrap();
+    assert_eq!((decoded.message, decoded.distance), (vec![21, 9, 0, 0], 0));
+
+    let text = "tune 7 1\n1 refused 13\nticks unknown\n";
+    assert_eq!(
+        book::listing(&samples::book(&[(7, body[..12].to_vec())])),
+        text
+    );
+    let read = samples::strike_card([47, 8, 5]);
+    let body = samples::body(&[read, word, read]);
+    let text = "tune 7 3\n1 47 8 5 0\n2 refused 13\n3 47 8 5 0\nticks unknown\n";
+    assert_eq!(book::listing(&samples::book(&[(7, body.clone())])), text);
+    assert_eq!(book::damaged_card(&body), Ok(Some(2)));
+    assert_eq!(book::damaged_card(&body[..12]), Ok(None));
+    assert_eq!(book::total_delay(&body[24..]), Ok(5));
 }
 
 #[test]
@@ -310,15 +435,17 @@ fn writing_case() {
     assert_eq!(book[18..], samples::body(&cards));
     assert_eq!(write_book(&[], &[], &[], 2), Ok(vec![0, 0]));
 
-    // The force is value 1, and the delay 27·m2 + m3.
+    // The force is in value 1, and the delay 27·m2 + m3.
     let book = write_book(&[1], &[1], &[0, 1, 0], 22).unwrap();
     assert_eq!(book[10..], samples::body(&[[1, 27, 103, 93, 633, 538]]));
-    for (delay, message) in [
-        (5, [0, 0, 0, 5]),
-        (135, [0, 0, 5, 0]),
-        (728, [0, 0, 26, 26]),
+    for (strike, message) in [
+        ([0, 0, 5], [0, 0, 0, 5]),
+        ([0, 0, 135], [0, 0, 5, 0]),
+        ([26, 8, 728], [26, 8, 26, 26]),
+        ([27, 0, 0], [0, 9, 0, 0]),
+        ([47, 8, 0], [20, 17, 0, 0]),
     ] {
-        let book = write_book(&[1], &[1], &[0, 0, delay], 22).unwrap();
+        let book = write_book(&[1], &[1], &strike, 22).unwrap();
         assert_eq!(
             book[10..],
             samples::body(&[encode(2, &message, 6).unwrap()])
@@ -333,13 +460,17 @@ fn writing_refusals() {
             .err()
             .map_or(0, Refusal::number)
     };
-    assert_eq!(refused(&[1], &[1], &[26, 26, 728], 22), 0);
-    for strikes in [[27, 0, 0], [0, 27, 0], [0, 0, 729]] {
+    assert_eq!(refused(&[1], &[1], &[47, 8, 728], 22), 0);
+    for bell in [48, 53, 54, 80, 81, 65_535] {
+        assert_eq!(refused(&[1], &[1], &[bell, 0, 0], 22), 10);
+    }
+    for strikes in [[0, 9, 0], [0, 26, 0], [47, 9, 0], [0, 0, 729]] {
         assert_eq!(refused(&[1], &[1], &strikes, 22), 10);
     }
     // Each refusal with all that come after it.
-    assert_eq!(refused(&[0, 0], &[0, 65_535, 0], &[0, 0, 0, 27], 1), 10);
-    assert_eq!(refused(&[0, 0], &[0, 65_535, 0], &[0, 0, 728, 26], 1), 2);
+    assert_eq!(refused(&[0, 0], &[0, 65_535, 0], &[0, 0, 0, 48], 1), 10);
+    assert_eq!(refused(&[0, 0], &[0, 65_535, 0], &[0, 0, 0, 47, 9], 1), 10);
+    assert_eq!(refused(&[0, 0], &[0, 65_535, 0], &[0, 0, 728, 47], 1), 2);
     assert_eq!(refused(&[0, 0], &[0, 65_535], &[0], 1), 5);
     assert_eq!(refused(&[0, 0], &[0, 1], &[0], 1), 6);
     assert_eq!(refused(&[1, 2], &[0, 1], &[0], 1), 7);
@@ -410,13 +541,13 @@ fn pressed(text: &str) -> Result<Vec<u8>, String> {
 
 #[test]
 fn texts() {
-    let book = write_book(&[7, 300], &[1, 2], &[1, 0, 0, 0, 0, 1, 26, 26, 728], 54).unwrap();
+    let book = write_book(&[7, 300], &[1, 2], &[1, 0, 0, 0, 0, 1, 47, 8, 728], 54).unwrap();
     let texts = [
-        "tune 7\n1 0 0\ntune 300\n0 0 1\n26 26 728\n",
-        "tune 7\n1 0 0\ntune 300\n0 0 1\n26 26 728",
-        "tune 7\r\n1 0 0\r\ntune 300\r\n0 0 1\r\n26 26 728\r\n",
-        "\ttune\t7\n1 \t 0\r0 \n tune  300\n\n0 0 1\n \t\r\n26 26 728\n\n",
-        "# A tune.\ntune 007\n#1 2 3\n0001 00 0\n  # tune 8\ntune 300\n0 0 1\n#\n26 26 728\n#",
+        "tune 7\n1 0 0\ntune 300\n0 0 1\n47 8 728\n",
+        "tune 7\n1 0 0\ntune 300\n0 0 1\n47 8 728",
+        "tune 7\r\n1 0 0\r\ntune 300\r\n0 0 1\r\n47 8 728\r\n",
+        "\ttune\t7\n1 \t 0\r0 \n tune  300\n\n0 0 1\n \t\r\n47 8 728\n\n",
+        "# A tune.\ntune 007\n#1 2 3\n0001 00 0\n  # tune 8\ntune 300\n0 0 1\n#\n47 8 728\n#",
     ];
     for text in texts {
         assert_eq!(pressed(text), Ok(book.clone()), "{text:?}");
@@ -454,7 +585,7 @@ fn texts_with_mistakes() {
         ("\n1 2 99999\ntune x", 2, before),
         ("1 2\n1 2 3", 1, neither),
         // Mistakes come before refusals.
-        ("tune 0\n27 0 0\ntune 0\ntune", 4, tune),
+        ("tune 0\n48 0 0\ntune 0\ntune", 4, tune),
     ];
     for (text, line, mistake) in mistakes {
         assert_eq!(
@@ -478,7 +609,9 @@ fn refused_texts() {
         (format!("tune 1\n{large} 0 0"), 10),
         (format!("tune 1\n0 {large} 0"), 10),
         (format!("tune {large}\n0 0 729\ntune 1"), 10),
-        ("tune 1\n65536 65562 0".to_string(), 10),
+        ("tune 1\n48 0 0".to_string(), 10),
+        ("tune 1\n47 8 728\n0 9 0".to_string(), 10),
+        ("tune 1\n65536 65544 0".to_string(), 10),
         ("tune 1\n".to_string() + &strikes(5_461), 5),
         (tunes(8_192), 5),
         (format!("tune {large}\n0 0 0"), 6),

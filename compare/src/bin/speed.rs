@@ -9,7 +9,8 @@
 //! `fast_listing`, from its start to its end, with the book in a file and the
 //! output in a pipe; `write book` writes the book of its strikes. A book has
 //! one tune of 5,460 cards, or where the damage is `0 tunes`, 3,276 tunes of
-//! one card. `book size` asks for the size of a book of 3,276 tunes.
+//! one card. Only hopeless cards are refused. `book size` asks for the size of a
+//! book of 3,276 tunes.
 //!
 //! A call of `wear` is of the body of such a book with one tune. Its damage is
 //! the width, and the damage of the cards.
@@ -377,7 +378,7 @@ impl Book {
         match self {
             Book::Full(damage) => samples::book(&[(1, full_body(damage))]),
             Book::MostTunes => {
-                let cards = cards(2, Damage::Rank(0), MOST_TUNES);
+                let cards = strike_cards(Damage::Rank(0), MOST_TUNES);
                 let bodies = cards.into_iter().map(|card| samples::body(&[card]));
                 samples::book(&(1..).zip(bodies).collect::<Vec<_>>())
             }
@@ -478,9 +479,21 @@ fn cards(k: u32, damage: Damage, count: usize) -> Vec<Card> {
     (0..count).map(card).collect()
 }
 
+/// Cards that are refused only if they are hopeless: their bells are those of
+/// strikes.
+fn strike_cards(damage: Damage, count: usize) -> Vec<Card> {
+    let random = &mut Random::new(2);
+    match damage {
+        Damage::Rank(rank) => (0..count)
+            .map(|_| samples::sent_strike(random, rank).received)
+            .collect(),
+        Damage::Hopeless => cards(2, damage, count),
+    }
+}
+
 /// The body of a book with one tune and as many cards as there can be.
 fn full_body(damage: Damage) -> Vec<u8> {
-    samples::body(&cards(2, damage, FULL_BOOK))
+    samples::body(&strike_cards(damage, FULL_BOOK))
 }
 
 /// Cards of any symbols.

@@ -7,8 +7,10 @@ use compare::code::{self, radius, Card};
 use compare::lent::{reading, Lent};
 use compare::library::Library;
 use compare::random::Random;
-use compare::samples::{self, junk, Sent};
+use compare::samples::{self, junk};
+use compare::strike::{meaning, LARGEST_FIELDS};
 
+pub mod bells;
 pub mod cable;
 pub mod dead;
 pub mod wear;
@@ -239,18 +241,23 @@ pub fn decode_lengths<L: Library>() {
     }
 }
 
-/// Strike cards of all kinds, damaged and whole.
+/// Strike cards of all kinds, damaged and whole. One in five is read for sure;
+/// the bells of the others may be over the largest.
 fn strike_cards(random: &mut Random, count: u32) -> Vec<Card> {
     let mut cards = cards(random, 2, count);
     for card in cards.iter_mut().step_by(12) {
         card[random.below(6) as usize] = *random.pick(&EDGE_SYMBOLS);
     }
+    for (turn, card) in (0..).zip(cards.iter_mut().step_by(5)) {
+        *card = samples::sent_strike(random, turn % 3).received;
+    }
     cards
 }
 
+/// Strike cards that are read without damage.
 fn whole_cards(random: &mut Random, count: u32) -> Vec<Card> {
     (0..count)
-        .map(|_| samples::sent(random, 2, 0).word)
+        .map(|_| samples::sent_strike(random, 0).word)
         .collect()
 }
 
@@ -428,10 +435,21 @@ fn check_body<L: Library>(body: Vec<u8>) {
     Call::DamagedCard { body }.check::<L>();
 }
 
+/// What the reference says to a card: 0 if it is read, or the refusal.
+fn read_status(card: &Card) -> u32 {
+    let body = samples::body(&[*card]);
+    Call::ReadCard { number: 1, body }.expected().status
+}
+
 pub fn bodies<L: Library>() {
     let mut random = Random::new(900);
     let all = strike_cards(&mut random, 1_500);
     let whole = whole_cards(&mut random, 300);
+    let statuses: Vec<u32> = all.iter().map(read_status).collect();
+    for status in [0, 3, 4, 13] {
+        let count = statuses.iter().filter(|other| **other == status).count();
+        assert!(count > 50, "only {count} of 1,500 cards give {status}");
+    }
     for turn in 0..1_500 {
         let cards = if turn % 3 == 0 { &whole } else { &all };
         let count = random.below(12) as usize;
@@ -453,37 +471,58 @@ pub fn bodies<L: Library>() {
     }
 }
 
+/// How many kinds of cards there are.
+const KINDS: usize = 6;
+
 /// Cards of a kind each, with their delay or the number of their refusal:
-/// whole, damaged with rank 1 and with rank 2, too far from every word, and
-/// with a symbol out of range.
-fn kinds(random: &mut Random) -> [(Card, Result<u32, u32>); 5] {
-    let [whole, one, two] = [0, 1, 2].map(|damage| samples::sent(random, 2, damage));
-    let (mut far, mut outside) = (whole.word, whole.word);
-    while code::decode(2, &far, 6, 4).is_ok() {
-        far = samples::damaged(random, &whole.word, 3);
-    }
-    outside[random.below(6) as usize] = 729;
-    let read = |sent: Sent| {
-        let delay = 27 * u32::from(sent.message[2]) + u32::from(sent.message[3]);
-        (sent.received, Ok(delay))
+/// whole, damaged with rank 1 and with rank 2, too far from every word, with a
+/// symbol out of range, and with a bell over the largest.
+fn kinds(random: &mut Random) -> [(Card, Result<u32, u32>); KINDS] {
+    let mut read = |damage| {
+        let sent = samples::sent_strike(random, damage);
+        let [_, _, delay] = meaning(&sent.message).expect("a strike");
+        (sent.received, Ok(delay.into()))
     };
+    let [whole, one, two] = [0, 1, 2].map(&mut read);
+    let far = far_card(random, &whole.0);
+    let mut outside = whole.0;
+    outside[random.below(6) as usize] = 729;
+    let damage = random.below(3) as u32;
+    let no_bell = samples::sent_no_bell(random, damage).received;
     [
-        read(whole),
-        read(one),
-        read(two),
+        whole,
+        one,
+        two,
         (far, Err(4)),
         (outside, Err(3)),
+        (no_bell, Err(13)),
     ]
+}
+
+/// A word with damage that cannot be mended.
+fn far_card(random: &mut Random, word: &Card) -> Card {
+    loop {
+        let far = samples::damaged(random, word, 3);
+        if code::decode(2, &far, 6, 4).is_err() {
+            return far;
+        }
+    }
+}
+
+/// The outcome of a call that fills no list: the numbers given back, or the
+/// refusal.
+fn outcome(known: Result<Vec<u32>, u32>) -> Outcome {
+    Outcome {
+        status: known.as_ref().err().map_or(0, |refusal| *refusal),
+        numbers: wide(&known.unwrap_or_default()),
+        lists: vec![],
+    }
 }
 
 /// The numbers or the refusal are known: the reference answers with them, and
 /// so does the implementation.
 fn expect_known<L: Library>(call: Call, known: Result<Vec<u32>, u32>) {
-    let known = Outcome {
-        status: known.as_ref().err().map_or(0, |refusal| *refusal),
-        numbers: wide(&known.unwrap_or_default()),
-        lists: vec![],
-    };
+    let known = outcome(known);
     assert_eq!(call.expected(), known, "{call:?}");
     call.expect::<L>(&known);
 }
@@ -493,9 +532,9 @@ fn expect_known<L: Library>(call: Call, known: Result<Vec<u32>, u32>) {
 /// no length, whatever its place.
 pub fn kinds_in_order<L: Library>() {
     let mut random = Random::new(1_050);
-    for order in 0..5_usize.pow(4) {
+    for order in 0..KINDS.pow(4) {
         let kinds = kinds(&mut random);
-        let places = [0, 1, 2, 3].map(|place| order / 5_usize.pow(place) % 5);
+        let places = [0, 1, 2, 3].map(|place| order / KINDS.pow(place) % KINDS);
         let body = samples::body(&places.map(|kind| kinds[kind].0));
         let damaged = places.iter().position(|kind| *kind > 0);
         let damaged = damaged.map_or(0, |place| place as u32 + 1);
@@ -542,7 +581,8 @@ pub fn large_bodies<L: Library>() {
     let all = strike_cards(&mut random, 200);
     let whole = whole_cards(&mut random, 200);
     let longest = LONGEST_BODY / 12;
-    let slowest = code::encode(2, &[26; 4], 6).expect("a message");
+    let slowest = samples::strike_card(LARGEST_FIELDS);
+    let no_bell = samples::sent_no_bell(&mut random, 0).word;
     let mut bodies = vec![
         body_of(&mut random, &all, longest),
         body_of(&mut random, &whole, longest),
@@ -558,6 +598,12 @@ pub fn large_bodies<L: Library>() {
     ] {
         let mut body = body_of(&mut random, &whole, longest);
         body[place] ^= flip;
+        bodies.push(body);
+    }
+    // Or its bell is over the largest.
+    for place in [longest - 1, 0] {
+        let mut body = body_of(&mut random, &whole, longest);
+        body[12 * place..][..12].copy_from_slice(&samples::body(&[no_bell]));
         bodies.push(body);
     }
     for extra in [1, 4, 5] {
@@ -649,8 +695,9 @@ pub fn large_listings<L: Library>() {
     let before = random.bytes(LISTING_MAX);
     let all = strike_cards(&mut random, 200);
     let whole = whole_cards(&mut random, 200);
-    let (widest, refused) = (vec![samples::widest_card(&mut random)], vec![[729; 6]]);
-    for cards in [&all, &whole, &widest, &refused] {
+    let widest = vec![samples::widest_card(&mut random)];
+    let no_bell = vec![samples::sent_no_bell(&mut random, 2).received];
+    for cards in [&all, &whole, &widest, &vec![[729; 6]], &no_bell] {
         for number in [1, 9_999] {
             let body = body_of(&mut random, cards, 5_460);
             check_listing::<L>(&samples::book(&[(number, body)]), &before);
@@ -681,7 +728,7 @@ pub fn listing_lengths<L: Library>() {
         samples::longest_listing(),
         vec![0; LONGEST_BOOK + 1],
     ];
-    let short = [0, 1, 15, 16, 50, 65_536, 124_502, LISTING_MAX - 1];
+    let short = [0, 1, 15, 16, 50, 65_536, 127_777, LISTING_MAX - 1];
     let long = [0, 1, 2, 100, LISTING_MAX].map(|extra| LISTING_MAX + extra);
     for book in books {
         for len in short.into_iter().chain(long) {
@@ -832,6 +879,31 @@ macro_rules! suite {
         #[test]
         fn kinds_in_order() {
             suite::kinds_in_order::<$library>();
+        }
+
+        #[test]
+        fn bells_all_messages() {
+            suite::bells::all_messages::<$library>();
+        }
+
+        #[test]
+        fn bells_at_edges() {
+            suite::bells::edges::<$library>();
+        }
+
+        #[test]
+        fn bells_over_the_largest() {
+            suite::bells::over_the_largest::<$library>();
+        }
+
+        #[test]
+        fn bells_and_other_refusals() {
+            suite::bells::other_refusals::<$library>();
+        }
+
+        #[test]
+        fn bells_in_bodies() {
+            suite::bells::in_bodies::<$library>();
         }
 
         #[test]

@@ -1,7 +1,7 @@
 //! Wear: all widths, bodies of many lengths with few and with many worn cards,
 //! runs that weigh the same, and every boundary.
 
-use super::{body_of, expect_known, kinds, strike_cards, whole_cards};
+use super::{body_of, expect_known, kinds, strike_cards, whole_cards, KINDS};
 use compare::book::LONGEST_BODY;
 use compare::call::Call;
 use compare::code::Card;
@@ -36,7 +36,7 @@ const WRONG_WIDTHS: [u32; 20] = [
 ];
 
 /// What a card of each of the `kinds` weighs.
-const WEIGHTS: [u32; 5] = [0, 1, 2, 3, 3];
+const WEIGHTS: [u32; KINDS] = [0, 1, 2, 3, 3, 3];
 
 fn call(body: &[u8], width: u32) -> Call {
     let body = body.to_vec();
@@ -66,12 +66,12 @@ fn worn_body(
 }
 
 /// A card of each of the `kinds`.
-fn cards_of_kinds(random: &mut Random) -> [Card; 5] {
+fn cards_of_kinds(random: &mut Random) -> [Card; KINDS] {
     kinds(random).map(|(card, _)| card)
 }
 
 /// A body of such cards, by their kinds.
-fn body_of_kinds(cards: &[Card; 5], kinds: &[usize]) -> Vec<u8> {
+fn body_of_kinds(cards: &[Card; KINDS], kinds: &[usize]) -> Vec<u8> {
     let picked: Vec<Card> = kinds.iter().map(|kind| cards[*kind]).collect();
     samples::body(&picked)
 }
@@ -97,7 +97,7 @@ pub fn all_widths<L: Library>() {
     let mut random = Random::new(5_000);
     let whole = whole_cards(&mut random, 100);
     let mut worn = strike_cards(&mut random, 200);
-    worn.extend((0..200).map(|turn| samples::sent(&mut random, 2, 1 + turn % 2).received));
+    worn.extend((0..200).map(|turn| samples::sent_strike(&mut random, 1 + turn % 2).received));
     let counts = (0..=10).chain([16, 31, 62, 63, 64, 65, 66, 67, 100, 127, 128, 129, 200]);
     for count in counts {
         for one_in in [1, 2, 5, 20, 100] {
@@ -112,9 +112,9 @@ pub fn all_widths<L: Library>() {
 /// Bodies of four cards, of all kinds in every order; and longer ones.
 pub fn known_weights<L: Library>() {
     let mut random = Random::new(5_100);
-    for order in 0..5_usize.pow(4) {
+    for order in 0..KINDS.pow(4) {
         let cards = cards_of_kinds(&mut random);
-        let kinds = [0, 1, 2, 3].map(|place| order / 5_usize.pow(place) % 5);
+        let kinds = [0, 1, 2, 3].map(|place| order / KINDS.pow(place) % KINDS);
         let body = body_of_kinds(&cards, &kinds);
         for width in 0..=5 {
             let known = known(&kinds, width as usize);
@@ -125,7 +125,7 @@ pub fn known_weights<L: Library>() {
         let cards = cards_of_kinds(&mut random);
         let count = random.below(150) as usize;
         // No whole cards, or up to a half of them.
-        let picked = &[1, 2, 3, 4, 0, 0, 0, 0][..4 + turn % 5];
+        let picked = &[1, 2, 3, 4, 5, 0, 0, 0, 0, 0][..5 + turn % 6];
         let kinds: Vec<usize> = (0..count).map(|_| *random.pick(picked)).collect();
         let body = body_of_kinds(&cards, &kinds);
         for width in [0, 1, 2, 3, 8, 20, 63, 64, 65] {
@@ -136,7 +136,7 @@ pub fn known_weights<L: Library>() {
 }
 
 /// One worn card among whole ones: the first run that has it is given.
-fn check_one_card<L: Library>(cards: &[Card; 5], kind: usize, place: usize, count: usize) {
+fn check_one_card<L: Library>(cards: &[Card; KINDS], kind: usize, place: usize, count: usize) {
     let mut kinds = vec![0; count];
     kinds[place] = kind;
     let body = body_of_kinds(cards, &kinds);
@@ -152,7 +152,7 @@ pub fn one_card<L: Library>() {
     let mut random = Random::new(5_200);
     let cards = cards_of_kinds(&mut random);
     for count in [64, 65, 70, 130] {
-        for kind in 1..5 {
+        for kind in 1..KINDS {
             for place in 0..count {
                 check_one_card::<L>(&cards, kind, place, count);
             }
@@ -164,7 +164,7 @@ pub fn one_card<L: Library>() {
 pub fn equal_cards<L: Library>() {
     let mut random = Random::new(5_300);
     let cards = cards_of_kinds(&mut random);
-    for kinds in [&[0][..], &[1], &[2], &[3], &[4], &[3, 4], &[4, 3, 3]] {
+    for kinds in [&[0][..], &[1], &[2], &[3], &[4], &[5], &[3, 4], &[4, 5, 3]] {
         let weight = WEIGHTS[kinds[0]];
         for count in [1, 2, 8, 9, 64, 65, 66, 100] {
             let kinds: Vec<usize> = kinds.iter().copied().cycle().take(count).collect();
@@ -182,7 +182,7 @@ pub fn equal_cards<L: Library>() {
 pub fn equal_runs<L: Library>() {
     let mut random = Random::new(5_400);
     let cards = cards_of_kinds(&mut random);
-    for run in [&[1][..], &[2], &[3], &[1, 1], &[2, 4], &[3, 0, 1], &[1; 8]] {
+    for run in [&[1][..], &[2], &[3], &[1, 1], &[2, 5], &[3, 0, 1], &[1; 8]] {
         let sum = run.iter().map(|kind| WEIGHTS[*kind]).sum();
         for gaps in gaps() {
             let [before, between, after] = gaps.map(|count| vec![0; count]);
@@ -229,6 +229,7 @@ pub fn large_bodies<L: Library>() {
     let mut bodies = vec![
         body_of_kinds(&cards, &vec![3; longest]),
         body_of_kinds(&cards, &vec![4; longest]),
+        body_of_kinds(&cards, &vec![5; longest]),
         body_of(&mut random, &worn, longest + 1),
     ];
     for one_in in [1, 5, 100, 2_000] {
@@ -244,6 +245,6 @@ pub fn large_bodies<L: Library>() {
         }
     }
     for place in [0, 63, 64, 255, 256, 4_095, 4_096, longest - 64, longest - 1] {
-        check_one_card::<L>(&cards, 1 + place % 4, place, longest);
+        check_one_card::<L>(&cards, 1 + place % 5, place, longest);
     }
 }

@@ -6,12 +6,15 @@ use compare::call::Call;
 use compare::library::Library;
 use compare::random::Random;
 use compare::samples;
+use compare::strike::LARGEST_FIELDS;
 use compare::writer::{book_size, Tunes};
 
-/// Numbers about the largest bell and force, 26, and the largest delay, 728;
-/// some are in range in their low 8 bits.
-const EDGE_FIELDS: [u16; 16] = [
-    0, 1, 25, 26, 27, 28, 255, 256, 282, 727, 728, 729, 730, 768, 32_768, 65_535,
+/// Numbers about the largest bell, 47, the largest force, 8, and the largest
+/// delay, 728, and about the ends of registers; some are in range in their low 8
+/// bits.
+const EDGE_FIELDS: [u16; 26] = [
+    0, 1, 7, 8, 9, 10, 26, 27, 46, 47, 48, 53, 54, 80, 81, 255, 256, 264, 303, 727, 728, 729, 730,
+    768, 32_768, 65_535,
 ];
 
 fn call(tunes: &Tunes, book: Vec<u8>) -> Call {
@@ -46,11 +49,11 @@ pub fn tunes<L: Library>() {
     }
 }
 
-/// Every strike there is, in full books.
+/// Every strike there is, in full books, which are read back.
 pub fn all_strikes<L: Library>() {
     let mut random = Random::new(1_700);
-    let strike = |n: u32| [n % 27, n / 27 % 27, n / 729].map(|field| field as u16);
-    let strikes: Vec<u16> = (0..27 * 27 * 729).flat_map(strike).collect();
+    let strike = |n: u32| [n % 48, n / 48 % 9, n / 48 / 9].map(|field| field as u16);
+    let strikes: Vec<u16> = (0..48 * 9 * 729).flat_map(strike).collect();
     for strikes in strikes.chunks(3 * 5_460) {
         let tunes = Tunes {
             numbers: vec![1 + random.below(9_999) as u16],
@@ -58,6 +61,7 @@ pub fn all_strikes<L: Library>() {
             strikes: strikes.to_vec(),
         };
         check_tunes::<L>(&mut random, &tunes);
+        check_read_back::<L>(&mut random, &tunes);
     }
 }
 
@@ -181,8 +185,12 @@ fn spoil_length<T: Copy + Default>(random: &mut Random, list: &mut Vec<T>) {
         true if list.len() >= less => list.len() - less,
         _ => list.len() + more,
     };
-    let value = list.first().copied().unwrap_or_default();
-    list.resize(len, value);
+    list.truncate(len);
+    while list.len() < len {
+        // As three places before, where the same field of a strike stands.
+        let place = list.len().checked_sub(3);
+        list.push(place.map_or(T::default(), |place| list[place]));
+    }
 }
 
 /// Puts one or more numbers of a strike list out of their range.
@@ -190,10 +198,18 @@ fn spoil_field(random: &mut Random, strikes: &mut [u16]) {
     for _ in 0..=random.below(3) {
         let place = random.below(strikes.len() as u64) as usize;
         strikes[place] = match place % 3 {
-            2 => *random.pick(&[729, 730, 1_000, 32_768, 65_535]),
-            _ => *random.pick(&[27, 28, 255, 256, 282, 728, 729, 65_535]),
+            0 => *random.pick(&[48, 49, 53, 54, 80, 81, 255, 256, 303, 728, 65_535]),
+            1 => *random.pick(&[9, 10, 26, 27, 47, 255, 256, 264, 728, 65_535]),
+            _ => *random.pick(&[729, 730, 1_000, 32_768, 65_535]),
         };
     }
+}
+
+/// So many numbers of a strike list, in their ranges.
+fn some_fields(random: &mut Random, len: usize) -> Vec<u16> {
+    let mut strikes = samples::strikes(random, len.div_ceil(3));
+    strikes.truncate(len);
+    strikes
 }
 
 /// Numbers about the largest fields, at every place of strike lists of every
@@ -204,8 +220,7 @@ pub fn fields<L: Library>() {
         for place in 0..len {
             for edge in EDGE_FIELDS {
                 let mut tunes = samples::tunes(&mut random, &[1, 2]);
-                tunes.strikes = samples::strikes(&mut random, 4);
-                tunes.strikes.truncate(len);
+                tunes.strikes = some_fields(&mut random, len);
                 tunes.strikes[place] = edge;
                 check_tunes::<L>(&mut random, &tunes);
             }
@@ -240,7 +255,7 @@ pub fn lists<L: Library>() {
             let tunes = Tunes {
                 numbers: (1..=numbers_len as u16).collect(),
                 counts: counts.clone(),
-                strikes: random.numbers(strikes_len, 27),
+                strikes: some_fields(&mut random, strikes_len),
             };
             call(&tunes, random.bytes(book_len)).check::<L>();
         }
@@ -251,15 +266,15 @@ pub fn lists<L: Library>() {
 pub fn any_lists<L: Library>() {
     let mut random = Random::new(2_100);
     for _ in 0..5_000 {
-        let mut list = |most_len: u64, bound: u16| {
-            let len = random.below(most_len) as usize;
-            random.numbers(len, bound)
+        let [numbers, counts, fields] = [5, 5, 20].map(|most_len| random.below(most_len) as usize);
+        let mut tunes = Tunes {
+            numbers: random.numbers(numbers, 100),
+            counts: random.numbers(counts, 4),
+            strikes: some_fields(&mut random, fields),
         };
-        let tunes = Tunes {
-            numbers: list(5, 100),
-            counts: list(5, 4),
-            strikes: list(20, 28),
-        };
+        if fields > 0 && random.chance(3) {
+            spoil_field(&mut random, &mut tunes.strikes);
+        }
         let len = random.below(100) as usize;
         call(&tunes, random.bytes(len)).check::<L>();
     }
@@ -331,7 +346,7 @@ pub fn long_lists<L: Library>() {
             check_tunes::<L>(&mut random, &tunes);
             tunes.numbers.pop();
             check_tunes::<L>(&mut random, &tunes);
-            tunes.strikes.push(27);
+            tunes.strikes.push(48);
             check_tunes::<L>(&mut random, &tunes);
         }
     }
@@ -350,11 +365,10 @@ pub fn long_strikes<L: Library>() {
     let mut random = Random::new(2_400);
     for len in [16_379, 16_380, 199_998, 199_999, 200_000] {
         let mut tunes = samples::tunes(&mut random, &[5_460]);
-        tunes.strikes = samples::strikes(&mut random, len / 3 + 1);
-        tunes.strikes.truncate(len);
+        tunes.strikes = some_fields(&mut random, len);
         check_tunes::<L>(&mut random, &tunes);
         for place in [0, 1, 2, len / 2, len - 4, len - 3, len - 2, len - 1] {
-            let most = if place % 3 == 2 { 728 } else { 26 };
+            let most = LARGEST_FIELDS[place % 3];
             for edge in [most, most + 1, 65_535] {
                 let mut tunes = tunes.clone();
                 tunes.strikes[place] = edge;
@@ -479,11 +493,15 @@ pub fn written_and_read<L: Library>() {
     let mut random = Random::new(2_700);
     for counts in readable_counts(&mut random) {
         let tunes = samples::tunes(&mut random, &counts);
-        let book = write_book::<L>(&mut random, &tunes);
-        let (read, damages) = read_book::<L>(&book);
-        assert_eq!(read, tunes);
-        assert!(damages.iter().all(|damage| *damage == 0));
+        check_read_back::<L>(&mut random, &tunes);
     }
+}
+
+fn check_read_back<L: Library>(random: &mut Random, tunes: &Tunes) {
+    let book = write_book::<L>(random, tunes);
+    let (read, damages) = read_book::<L>(&book);
+    assert_eq!(read, *tunes);
+    assert!(damages.iter().all(|damage| *damage == 0));
 }
 
 /// A book without damage has the same bytes when what is read of it is
@@ -495,7 +513,7 @@ pub fn read_and_written<L: Library>() {
         let (mut clean, mut damaged) = (vec![], vec![]);
         for (number, count) in numbers.into_iter().zip(counts) {
             let sent: Vec<samples::Sent> = (0..count)
-                .map(|turn| samples::sent(&mut random, 2, turn as u32 % 3))
+                .map(|turn| samples::sent_strike(&mut random, turn as u32 % 3))
                 .collect();
             let bytes = |card: fn(&samples::Sent) -> [u16; 6]| {
                 samples::body(&sent.iter().map(card).collect::<Vec<_>>())

@@ -58,7 +58,7 @@ fn card_at(body: &[u8], n: usize) -> [u16; 6]
     symbols(&body[12 * (n - 1)..12 * n])
 }
 
-// Six symbols, read: 3 and 4 of Decode for k = 2, or their strike.
+// Six symbols, read: 3 and 4 of Decode for k = 2, 13 for the bell, or their strike.
 fn read_symbols(card: [u16; 6]) -> Reading
     ensures { λ r. ⌜ read-reply r ≡ card-reading (card-refusal card) card ⌝ }
 {
@@ -71,10 +71,14 @@ fn read_symbols(card: [u16; 6]) -> Reading
     }
     let message = near.message;
     let damage = near.weight;
-    Reading::Strike(strike::strike_of(message), damage)
+    let s = strike::strike_of(message);
+    if strike::no_bell(s) {
+        return Reading::Refused(Refusal::NoSuchBell);
+    }
+    Reading::Strike(s, damage)
 }
 
-// A card of a body, counted from 1: a strike with its damage, or a refusal: 2, then 9, then 3 and 4 (document 01: Read).
+// A card of a body, counted from 1: a strike with its damage, or a refusal: 2, then 9, then 3, 4 and 13 (document 01: Read).
 pub fn read_card(body: &[u8], number: u32) -> Reading
     ensures { λ r. ⌜ read-reply r ≡ reading (now (body .entry)) number ⌝ }
 {

@@ -1,32 +1,36 @@
--- What is demanded of Open, Pull, Read, Length, Worn, Write and Size, proved: each from the operation's contract.
--- Main: open-says, pull-says, find-says, body-says, read-is, read-says, length-says, worn-says, write-says, size-says.
+-- What is demanded of strikes, Open, Pull, Read, Length, Worn, Write and Size, proved: each from the operation's contract.
+-- Main: open-says, pull-says, find-says, body-says, strikes-say, read-is, read-says, length-says, worn-says, write-says, size-says.
 use mathlib.Core.Path.{_≡_, refl, sym, ap, _∙_, subst}
 use mathlib.Core.Logic.{_⊎_, inl, inr}
-use mathlib.Core.Bool.{Bool, true, false, _||_, not, true≢false}
+use mathlib.Core.Bool.{Bool, true, false, _||_, not, cond, true≢false}
 use mathlib.Core.List.{List}
 use mathlib.Core.Option.{Option, none, some}
 use Prim.Native.Nat.{ℕ, zero, suc, _+_, _≤_}
 use native.Mathlib.Omega.{arith}
 use lib.Dec.{eqb}
 use lib.ListN.{length}
-use borrow.Author.Tests.{eqb-true, eqb-false, not-true, not-false}
+use borrow.Author.Tests.{le-ltb, eqb-true, eqb-false, not-true, not-false}
 use Rattle.algebra.specs.Tests.{any-above, neither}
 use Rattle.algebra.specs.Search.{first-from, None-in, search-first, search-none}
 use Rattle.refusal.specs.declared.Outcome.{Outcome}
 use Rattle.refusal.specs.declared.Answer.{Answer}
 use Rattle.refusal.specs.Replies.{Reply, outcome, replied, refused-with, reply, reply-with, unless}
+use Rattle.rank.specs.Definitions.{difference}
+use Rattle.rank.specs.Weight.{weight-of}
+use Rattle.coding.specs.Code.{word}
 use Rattle.coding.specs.Decode.{decode}
 use Rattle.coding.specs.Proved.{decode-none}
+use Rattle.strike.specs.Strikes.{no-bell, strike-of, range-parts, parts-range, strike-good, strike-message-back, message-only, example-means}
 use Rattle.book.specs.declared.reading.Reading.{Reading}
 use Rattle.book.specs.declared.bodies.Worn.{Worn}
 use Rattle.book.specs.Layout.{tunes, part-of, body-good, symbols-from, card}
 use Rattle.book.specs.Open.{size-bad, numbers-bad, bodies-bad, open-refusal}
 use Rattle.book.specs.Pull.{entry-of, missing, part-at, pull-refusal, pulled}
-use Rattle.book.specs.Reading.{Card-value, no-value, read-reply, cards-in, no-card, reading}
+use Rattle.book.specs.Reading.{Card-value, no-value, card-refusal, card-reading, read-reply, cards-in, no-card, reading}
 use Rattle.book.specs.Bodies.{body-refusal, total-delay, flawed, is-damaged, first-damaged, worn-reply}
 use Rattle.book.specs.Accepted.{one-entry}
 use Rattle.book.specs.Pulled.{pull-accepted, pull-refused, pulled-accepted, pulled-refused, entry-found, entry-there, empty-refused}
-use Rattle.book.specs.CardReading.{card-range, card-lost, card-strike, card-passes, read-bad, read-past, read-there, refused-reading}
+use Rattle.book.specs.CardReading.{struck, card-range, card-lost, card-bell, card-strike, card-passes, read-bad, read-past, read-there, refused-reading}
 use Rattle.book.specs.Delays.{total-bad, is-refused, delay-sum, not-refused, delays-whole, delays-hole}
 use Rattle.book.specs.Damaged.{damaged-first, damaged-none}
 use Rattle.writer.specs.Writing.{book-length, size-refusal, lengths-good, write-refusal, Written}
@@ -34,7 +38,7 @@ use Rattle.writer.specs.Shown.{written-shows}
 use Rattle.demands.specs.Settled.{said-once}
 use Rattle.demands.specs.CardDemands.{the-near}
 use Rattle.demands.specs.Demands.{opening-refusal, Open-says, Pulled, Missing, Pull-as, Pull-says}
-use Rattle.demands.specs.Demands.{reading-refusal, Read-strike, Read-card, Read-as, Read-says}
+use Rattle.demands.specs.Demands.{Strikes-say, reading-refusal, Read-near, Read-card, Read-as, Read-says}
 use Rattle.demands.specs.Demands.{Delays, no-cards, one-more, Hole, Length-sum, Length-hole, Length-as, Length-says}
 use Rattle.demands.specs.Demands.{Damaged, Worn-card, Worn-as, Worn-says}
 use Rattle.demands.specs.Demands.{writing-refusal, Write-says, Size-says}
@@ -83,13 +87,27 @@ find-says bs t r e = (pulled bs t, rw e (pull-says bs t))
 pub body-says : (bs : List ℕ) (t : ℕ) (part : List ℕ) → part ≡ pulled bs t → (refusal : ℕ) × Pull-says bs t refusal part
 body-says bs t part e = (pull-refusal bs t, rw e (pull-says bs t))
 
+-- WHAT A MESSAGE MEANS
+pub strikes-say : Strikes-say
+unfolding no-bell
+strikes-say = record {
+  example = example-means;
+  back = λ m e b. (range-parts (strike-of m) (strike-good m e (le-ltb 47 (strike-of m .bell) b)), strike-message-back m e);
+  message-only = λ s (b, f, d) m. message-only s (parts-range s b f d) m;
+}
+
 -- READ
 pub read-is : (bs : List ℕ) (n : ℕ) → Read-says bs n (reading bs n)
-unfolding Read-says Read-as Read-card Read-strike reading-refusal no-card card symbols-from
+unfolding Read-says Read-as Read-card Read-near reading-refusal no-bell no-card card symbols-from
 read-is bs n = go (body-good bs) refl (no-card bs n) refl (any-above 728 c) refl (decode 2 c) refl
   where
     c : List ℕ
     c = card bs n
+
+    near : (m : List ℕ) → any-above 728 c ≡ false → decode 2 c ≡ some m → (b : Bool) → no-bell (strike-of m) ≡ b
+        → card-reading (card-refusal c) c ≡ cond b (refused-with no-value 13) (struck m (weight-of (difference (word 2 m) c)))
+    near m q d true w = sym (card-bell c m q d w)
+    near m q d false w = sym (card-strike c m q d w)
 
     go : (g : Bool) → body-good bs ≡ g → (h : Bool) → no-card bs n ≡ h → (a : Bool) → any-above 728 c ≡ a → (o : Option (List ℕ)) → decode 2 c ≡ o
         → Read-as (reading-refusal bs n) c (reading bs n)
@@ -99,7 +117,7 @@ read-is bs n = go (body-good bs) refl (no-card bs n) refl (any-above 728 c) refl
     go true e false f false q none d = rw (e, f, q) (inr (decode-none 2 c .0 d, sym (card-lost c q d ∙ read-there bs n e f)))
     go true e false f false q (some m) d =
         rw (e, f, q)
-        (inl (m, (the-near 2 (omega arith) (omega arith) c (card-passes c refl q) m d, sym (card-strike c m q d ∙ read-there bs n e f))))
+        (inl (m, (the-near 2 (omega arith) (omega arith) c (card-passes c refl q) m d, sym (read-there bs n e f) ∙ near m q d (no-bell (strike-of m)) refl)))
 
 pub read-says : (bs : List ℕ) (n : ℕ) (r : Reading) → read-reply r ≡ reading bs n → Read-says bs n (read-reply r)
 read-says bs n r e = rw e (read-is bs n)

@@ -5,8 +5,9 @@
 -- (WrittenBooks). Answers are replies (refusal/Replies): `outcome`, `reply`, `weight-reply` (rank/Weight), `read-reply` (book/Reading), `worn-reply`
 -- (book/Bodies), `wear-reply` (wear/Wear) and `signed-reply` (cable/Operations) give them for each case of an enum. A message or a list mu that is
 -- named here is the only one of its kind.
--- Main: Code-says, Press-says, Weigh-says, Test-says, Mend-says, Mend-dead-says, Mends-alike, Open-says, Pull-says, Read-says, Length-says,
--- Worn-says, Wear-says, Write-says, Size-says, Cable-says, Signed-says, Symbol-says, Levels-says, Symbols-says, Receive-says, Mends-sent.
+-- Main: Code-says, Press-says, Weigh-says, Test-says, Mend-says, Mend-dead-says, Mends-alike, Open-says, Pull-says, Strikes-say, Read-says,
+-- Length-says, Worn-says, Wear-says, Write-says, Size-says, Cable-says, Signed-says, Symbol-says, Levels-says, Symbols-says, Receive-says,
+-- Mends-sent.
 --
 -- THE FIRST DEMAND: every operation ends, does nothing undefined, refuses bad input by number in a fixed order, and then changes nothing.
 -- That it ends and does nothing undefined is what a proof in Rattle is, and no operation has a `requires`. Each `-refusal` below has the numbers
@@ -30,13 +31,14 @@ use Rattle.rank.specs.declared.Weight.{Weight}
 use Rattle.rank.specs.Definitions.{is-card, difference}
 use Rattle.rank.specs.Distance.{Rank-even}
 use Rattle.rank.specs.Weight.{weight-of, no-weight}
-use Rattle.coding.specs.Code.{word, Near, test-values}
+use Rattle.coding.specs.Code.{word, is-message, Near, test-values}
 use Rattle.coding.specs.Promise.{One-near, Far-apart, Words-cards, Mu, Mu-there, Test-tells}
 use Rattle.dead_lines.specs.Struck.{dead-lines, live-rank, NearDead, One-near-dead}
 use Rattle.levels.specs.Levels.{signed-of, outside, symbol-of, received}
 use Rattle.levels.specs.Received.{Sent}
 use Rattle.codec.specs.Operations.{k-bad}
-use Rattle.strike.specs.Strikes.{strike-of}
+use Rattle.strike.specs.declared.Strike.{Strike}
+use Rattle.strike.specs.Strikes.{strike-of, strike-message}
 use Rattle.strike.specs.Turns.{any-beyond}
 use Rattle.book.specs.Layout.{tunes, tune-number, offset, cards, tune-numbers, body-good, card}
 use Rattle.book.specs.Open.{rising, bodies-good}
@@ -175,16 +177,29 @@ Pull-as (suc n) bs t r p = (r ≡ suc n) × (p ≡ [])
 unfoldable pub Pull-says : List ℕ → (t r : ℕ) → (part : List ℕ) → Type 0
 Pull-says bs t r p = Pull-as (opening-refusal bs) bs t r p
 
--- READ: 2 for the body, 9 for the card number, 3; else the strike of the message near the card with its damage, or 4
+-- WHAT A MESSAGE MEANS (document 02, P8): an example; a message whose bell is at most 47 means a strike in range, and comes back from it; every
+-- strike in range has exactly one message, the one that is pressed
+abbrev pub In-range : Strike → Type 0
+In-range s = (s .bell ≤ 47) × (s .force ≤ 8) × (s .delay ≤ 728)
+
+pub record Strikes-say : Type 0 where
+  pub example : strike-of (20 ∷ 14 ∷ 2 ∷ 1 ∷ []) ≡ record { bell = 47; force = 5; delay = 55 }
+  pub back : (m : List ℕ) → is-message 2 m ≡ true → strike-of m .bell ≤ 47 → In-range (strike-of m) × (strike-message (strike-of m) ≡ m)
+  pub message-only : (s : Strike) → In-range s → (m : List ℕ) → ((is-message 2 m ≡ true) × (strike-of m ≡ s)) ↔ (m ≡ strike-message s)
+
+-- READ: 2 for the body, 9 for the card number, 3; else the strike of the message near the card with its damage, or 13 for a bell above 47; or 4 if no
+-- message is near
 unfoldable pub reading-refusal : (body : List ℕ) → (n : ℕ) → ℕ
 reading-refusal bs n =
     cond (not (body-good bs)) 2 (cond (eqb n 0 || ltb (cards-in bs) n) 9 (cond (any-above 728 (card bs n)) 3 0))
 
-unfoldable pub Read-strike : (c m : List ℕ) → Reply Card-value → Type 0
-Read-strike c m r = The-near 2 c m × (r ≡ replied (record { strike = strike-of m; damage = weight-of (difference (word 2 m) c) }))
+unfoldable pub Read-near : (c m : List ℕ) → Reply Card-value → Type 0
+Read-near c m r =
+    The-near 2 c m
+    × (r ≡ cond (ltb 47 (strike-of m .bell)) (refused-with no-value 13) (replied (record { strike = strike-of m; damage = weight-of (difference (word 2 m) c) })))
 
 unfoldable pub Read-card : (c : List ℕ) → Reply Card-value → Type 0
-Read-card c r = ((m : List ℕ) × Read-strike c m r) ⊎ (None-near 2 c × (r ≡ refused-with no-value 4))
+Read-card c r = ((m : List ℕ) × Read-near c m r) ⊎ (None-near 2 c × (r ≡ refused-with no-value 4))
 
 unfoldable pub Read-as : (refusal : ℕ) → (c : List ℕ) → Reply Card-value → Type 0
 Read-as zero c r = Read-card c r
@@ -268,7 +283,7 @@ bytes-needed cs = 2 + 8 * length cs + 12 * all-cards cs
 -- 7 for a count of 0; 2 unless each card has its three numbers and the lent book the length; else the book of the lists, and it shows them
 unfoldable pub writing-refusal : (numbers counts strikes : List ℕ) → (room : ℕ) → ℕ
 writing-refusal ns cs ss w =
-    cond (any-beyond 26 26 728 ss) 10
+    cond (any-beyond 47 8 728 ss) 10
     (cond (not (eqb (length cs) (length ns))) 2
     (cond (ltb 65536 (bytes-needed cs)) 5
     (cond (not (rising 1 ns)) 6

@@ -3,7 +3,7 @@
 pub mod Demands
 -- What is said leaves nothing free
 pub mod Settled
--- What is said holds: of the code, Press, Weigh, Test and Mend, also with dead lines; of Open, Pull, Read, Length, Worn, Write and
+-- What is said holds: of the code, Press, Weigh, Test and Mend, also with dead lines; of strikes, Open, Pull, Read, Length, Worn, Write and
 -- Size; of wear; of levels on the cable
 pub mod CardDemands
 pub mod BookDemands

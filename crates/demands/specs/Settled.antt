@@ -20,7 +20,7 @@ use Rattle.book.specs.Layout.{card}
 use Rattle.book.specs.Reading.{Card-value, no-value}
 use Rattle.wear.specs.declared.runs.Run.{Run}
 use Rattle.demands.specs.Demands.{Test-as, Mend-as, Mended, Hopeless, Mend-dead-as, Mended-dead, Hopeless-dead, Pull-as, Pulled, Missing}
-use Rattle.demands.specs.Demands.{reading-refusal, Read-as, Read-card, Read-strike, Read-says}
+use Rattle.demands.specs.Demands.{reading-refusal, Read-as, Read-card, Read-near, Read-says}
 use Rattle.demands.specs.Demands.{Delays, no-cards, one-more, Hole, Length-sum, Length-hole, Length-as, Worn-card, Worn-as}
 use Rattle.demands.specs.Demands.{Worst-run, Wear-as}
 use Rattle.demands.specs.Demands.{Symbol-as, Symbols-as, Receive-as}
@@ -60,7 +60,7 @@ module _ (bs : List ℕ) (t r s : ℕ) (p q : List ℕ) where
 
 module _ (c : List ℕ) (r s : Reply Card-value) where
   pub read-settled : (x : ℕ) → Read-as x c r → Read-as x c s → r ≡ s
-  unfolding Read-as Read-card Read-strike
+  unfolding Read-as Read-card Read-near
   read-settled zero (inl (m, a)) (inl (n, b)) = let same = a .0 .1 n (b .0 .0) in cc
   read-settled zero (inl (m, a)) (inr b) = absurd (b .0 m (a .0 .0))
   read-settled zero (inr a) (inl (n, b)) = absurd (a .0 n (b .0 .0))

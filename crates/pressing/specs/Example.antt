@@ -1,5 +1,5 @@
--- The example of SPECIFICATION 12.7: its book to the byte, whose cards are two of 12.6, and what is said of it with a mistake.
--- Main: example, example-unsaid, example-pressed, empty-pressed, early-said, unknown-said, refused-said.
+-- The example of SPECIFICATION 12.7: its book to the byte, whose cards are of 12.6, and what is said of it with a mistake.
+-- Main: example, example-unsaid, example-pressed, empty-pressed, early-said, unknown-said, refused-said, bell-said.
 use mathlib.Core.Path.{_≡_, refl}
 use mathlib.Core.List.{List, [], _∷_}
 use Prim.Native.Nat.{ℕ}
@@ -47,7 +47,7 @@ writing = 0
 
 -- one tune of two cards
 abbrev pub example : List ℕ
-example = ascii "# a rest has bell 0\ntune 7\n1 0 0\n0 0 1\n"
+example = ascii "# 47 is the last bell\ntune 7\n1 0 0\n47 5 1\n"
 
 pub example-unsaid : said example ≡ []
 unfolding saying
@@ -56,7 +56,7 @@ example-unsaid = refl
 pub example-pressed : pressed example
     ≡ 0 ∷ 1 ∷ 0 ∷ 7 ∷ 0 ∷ 0 ∷ 0 ∷ 10 ∷ 0 ∷ 2
     ∷ 0 ∷ 1 ∷ 0 ∷ 3 ∷ 0 ∷ 9 ∷ 0 ∷ 27 ∷ 0 ∷ 81 ∷ 0 ∷ 243
-    ∷ 0 ∷ 3 ∷ 1 ∷ 23 ∷ 0 ∷ 233 ∷ 2 ∷ 138 ∷ 1 ∷ 167 ∷ 0 ∷ 163
+    ∷ 2 ∷ 139 ∷ 0 ∷ 22 ∷ 1 ∷ 119 ∷ 1 ∷ 13 ∷ 0 ∷ 16 ∷ 2 ∷ 150
     ∷ []
 unfolding writing
 example-pressed = refl
@@ -66,15 +66,19 @@ pub empty-pressed : pressed [] ≡ 0 ∷ 0 ∷ []
 unfolding writing
 empty-pressed = refl
 
--- without the second line, without the last number, with another tune number
-pub early-said : said (ascii "# a rest has bell 0\n1 0 0\n0 0 1\n") ≡ ascii "line 2: a strike before the first tune\n"
+-- without the second line, without the last number, with another tune number, with the bell after the last
+pub early-said : said (ascii "# 47 is the last bell\n1 0 0\n47 5 1\n") ≡ ascii "line 2: a strike before the first tune\n"
 unfolding saying
 early-said = refl
 
-pub unknown-said : said (ascii "# a rest has bell 0\ntune 7\n1 0 0\n0 0\n") ≡ ascii "line 4: neither a tune nor a strike of three numbers\n"
+pub unknown-said : said (ascii "# 47 is the last bell\ntune 7\n1 0 0\n47 5\n") ≡ ascii "line 4: neither a tune nor a strike of three numbers\n"
 unfolding saying
 unknown-said = refl
 
-pub refused-said : said (ascii "# a rest has bell 0\ntune 70000\n1 0 0\n0 0 1\n") ≡ ascii "book refused 6\n"
+pub refused-said : said (ascii "# 47 is the last bell\ntune 70000\n1 0 0\n47 5 1\n") ≡ ascii "book refused 6\n"
 unfolding saying
 refused-said = refl
+
+pub bell-said : said (ascii "# 47 is the last bell\ntune 7\n1 0 0\n48 5 1\n") ≡ ascii "book refused 10\n"
+unfolding saying
+bell-said = refl

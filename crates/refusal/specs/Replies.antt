@@ -6,7 +6,7 @@ use Prim.Native.Nat.{ℕ}
 use lib.Dec.{eqb}
 use borrow.Author.Tests.{eq-eqb}
 use Rattle.refusal.specs.declared.Refusal.{Refusal}
-use Rattle.refusal.specs.declared.Refusal.the-variants.{Dimension, Length, Range, Undecodable, BookSize, TuneNumber, Layout, NoSuchTune, NoSuchCard, StrikeField, DeadLines, Width}
+use Rattle.refusal.specs.declared.Refusal.the-variants.{Dimension, Length, Range, Undecodable, BookSize, TuneNumber, Layout, NoSuchTune, NoSuchCard, StrikeField, DeadLines, Width, NoSuchBell}
 use Rattle.refusal.specs.declared.Outcome.{Outcome}
 use Rattle.refusal.specs.declared.Outcome.the-variants as outcomes
 use Rattle.refusal.specs.declared.Answer.{Answer}
@@ -26,6 +26,7 @@ number NoSuchCard = 9
 number StrikeField = 10
 number DeadLines = 11
 number Width = 12
+number NoSuchBell = 13
 
 -- no refusal has the number 0
 pub number-not-zero : (r : Refusal) → eqb (number r) 0 ≡ false
@@ -41,6 +42,7 @@ number-not-zero NoSuchCard = refl
 number-not-zero StrikeField = refl
 number-not-zero DeadLines = refl
 number-not-zero Width = refl
+number-not-zero NoSuchBell = refl
 
 -- an outcome: 0 when done, or the refusal's number
 abbrev pub outcome : Outcome → ℕ

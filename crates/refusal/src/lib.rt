@@ -27,6 +27,8 @@ pub enum Refusal {
     DeadLines,
     // 12: a width of 0, above 64, or above the count of cards.
     Width,
+    // 13: a card whose bell is above 47.
+    NoSuchBell,
 }
 
 // The answer of an operation that has nothing to say but that it is done.
@@ -58,6 +60,7 @@ pub fn number(r: Refusal) -> u32
         Refusal::StrikeField => 10,
         Refusal::DeadLines => 11,
         Refusal::Width => 12,
+        Refusal::NoSuchBell => 13,
     }
 }
 

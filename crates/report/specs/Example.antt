@@ -1,9 +1,9 @@
 -- The example of SPECIFICATION 12.6, and its listing to the byte, from the definitions.
 -- Main: body, example, read-first to read-fourth, accepted; example-listed.
 use mathlib.Core.Path.{_≡_, refl, sym, _∙_, ap}
-use mathlib.Core.Bool.{true}
+use mathlib.Core.Bool.{true, false}
 use mathlib.Core.List.{List, [], _∷_, _++_}
-use Prim.Native.Nat.{ℕ, _+_, _≤_}
+use Prim.Native.Nat.{ℕ, _≤_}
 use lib.Dec.{lit≤}
 use lib.ListN.{take, drop}
 use Rattle.algebra.specs.Linear.{computing}
@@ -17,7 +17,7 @@ use Rattle.coding.specs.Code.{inner, inner-sum, value, word-from, word, is-mess
 use Rattle.book.specs.Layout.{big, big-four, tunes, tune-numbers, part-of, body-good, symbols-from, card}
 use Rattle.book.specs.Open.{size-bad, rising, numbers-bad, bodies-good, bodies-bad, open-refusal}
 use Rattle.rank.specs.Weight.{weight-of, no-weight}
-use Rattle.strike.specs.Strikes.{strike-of}
+use Rattle.strike.specs.Strikes.{no-bell, strike-of}
 use Rattle.book.specs.Reading.{no-value, reading}
 use Rattle.book.specs.Bodies.{body-refusal, add-delay, delays, total-delay}
 use Rattle.book.specs.CardReading.{struck, card-range, read-there, there-card}
@@ -70,6 +70,10 @@ second-whole : is-message 2 second-message ≡ true
 unfolding is-message any-above second-message
 second-whole = refl
 
+bells : (no-bell (strike-of first-message) ≡ false) × (no-bell (strike-of second-message) ≡ false)
+unfolding no-bell strike-of at first-message second-message
+bells = (refl, refl)
+
 third-card : is-card (card body 3) ≡ true
 unfolding card symbols-from big is-card any-above
 third-card = refl
@@ -83,10 +87,10 @@ unfolding card symbols-from big any-above
 fourth-range = refl
 
 pub read-first : reading body 1 ≡ struck first-message no-weight
-read-first = word-read body 1 good (lit≤ tt) (lit≤ tt) first-message first-whole first-card
+read-first = word-read body 1 good (lit≤ tt) (lit≤ tt) first-message first-whole first-card (bells .0)
 
 pub read-second : reading body 2 ≡ struck second-message no-weight
-read-second = word-read body 2 good (lit≤ tt) (lit≤ tt) second-message second-whole second-card
+read-second = word-read body 2 good (lit≤ tt) (lit≤ tt) second-message second-whole second-card (bells .1)
 
 near-enough : apart (word 2 first-message) (card body 3) ≤ radius 2
 unfolding radius
@@ -95,7 +99,7 @@ near-enough = rw third-apart (lit≤ tt)
 pub read-third : reading body 3 ≡ struck first-message (record { rank = 1 })
 unfolding weight-of apart
 read-third =
-    near-read body 3 good (lit≤ tt) (lit≤ tt) first-message third-card (record { message = first-whole; within = near-enough })
+    near-read body 3 good (lit≤ tt) (lit≤ tt) first-message third-card (record { message = first-whole; within = near-enough }) (bells .0)
     ∙ rw third-apart
 
 pub read-fourth : reading body 4 ≡ refused-with no-value (number Range)

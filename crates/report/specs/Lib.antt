@@ -5,6 +5,7 @@ pub mod Reports
 pub mod Sizes
 -- What a report is, by what Open says; and what a caller learns from the answer
 pub mod Answers
--- The example: its listing, and its wear
+-- The examples: document 01's, its listing and its wear; and one of the last bell
 pub mod Example
 pub mod WearExample
+pub mod BellExample

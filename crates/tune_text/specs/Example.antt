@@ -22,7 +22,7 @@ computing = 0
 
 -- comments, an empty line, blanks of all kinds, a number above the most, a tune without cards, and a last line that is not ended
 abbrev example : List ℕ
-example = ascii "# two tunes\ntune 12\n4 12 25\n\n  # a rest\n0\t0  50\r\ntune 13\ntune 907\r\n 1 26 99999"
+example = ascii "# two tunes\ntune 12\n4 4 25\n\n  # a rest\n0\t0  50\r\ntune 13\ntune 907\r\n 31 8 99999"
 
 pub example-numbers : numbers-of (lines-said example) ≡ 12 ∷ 13 ∷ 907 ∷ []
 unfolding computing
@@ -32,7 +32,7 @@ pub example-counts : counts-of (lines-said example) ≡ 2 ∷ 0 ∷ 1 ∷ []
 unfolding computing
 example-counts = refl
 
-pub example-strikes : strikes-of (lines-said example) ≡ 4 ∷ 12 ∷ 25 ∷ 0 ∷ 0 ∷ 50 ∷ 1 ∷ 26 ∷ 65535 ∷ []
+pub example-strikes : strikes-of (lines-said example) ≡ 4 ∷ 4 ∷ 25 ∷ 0 ∷ 0 ∷ 50 ∷ 31 ∷ 8 ∷ 65535 ∷ []
 unfolding computing
 example-strikes = refl
 

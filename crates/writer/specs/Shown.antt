@@ -14,7 +14,7 @@ use Rattle.refusal.specs.Replies.{Reply, replied}
 use Rattle.rank.specs.Weight.{no-weight}
 use Rattle.coding.specs.Code.{word}
 use Rattle.strike.specs.declared.Strike.{Strike}
-use Rattle.strike.specs.Strikes.{in-range, strike-message, no-strike, strike-back, message-good}
+use Rattle.strike.specs.Strikes.{in-range, strike-message, no-strike, strike-back, message-good, range-bell}
 use Rattle.strike.specs.Turns.{strikes, length-strikes, strikes-range}
 use Rattle.book.specs.Layout.{longest-book, tunes, contents-end, tune-number, offset, cards, two-bytes, entry-bytes, tune-numbers, card-counts, part-of, body-good, card}
 use Rattle.book.specs.Open.{size-bad, bodies-good, numbers-bad, bodies-bad, open-refusal}
@@ -54,7 +54,9 @@ module _ (ts : List Strike) (j : ℕ) (h : j < length ts) where
   strike-read g r =
       let s = getD ts j no-strike in
       let l = length-cards ts in
-      word-read (cards-bytes ts) (suc j) g (omega arith) (omega arith) (strike-message s) (message-good s r) card-is ∙ ap undamaged (strike-back s)
+      let b = strike-back s r in
+      word-read (cards-bytes ts) (suc j) g (omega arith) (omega arith) (strike-message s) (message-good s r) card-is (rw b (range-bell s r))
+      ∙ ap undamaged b
 
 -- THE STRIKES of tune e, among those of all tunes
 abbrev tune-strikes : (cs ss : List ℕ) → (e : ℕ) → List Strike

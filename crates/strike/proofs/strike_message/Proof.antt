@@ -6,18 +6,18 @@ use Rattle.strike.specs.Strikes.{strike-message, range-parts}
 use Rattle.strike.proofs.strike_message.Statement.{statement}
 use Rattle.strike.proofs.strike_message.Tie as tie
 
+add-second : tie.Need-add-second
+add-second c = omega (arith, range-parts _ (c .before .before .before .pre))
+
+cast-second : tie.Need-cast-second
+cast-second c = omega (arith, range-parts _ (c .before .before .before .pre))
+
 cast-high : tie.Need-cast-high
-cast-high c = omega (arith, range-parts _ (c .before .pre))
-
-cast-bell : tie.Need-cast-t5
-cast-bell c = omega (arith, range-parts _ (c .before .before .before .pre))
-
-cast-force : tie.Need-cast-t6
-cast-force c = omega (arith, range-parts _ (c .before .before .before .before .pre))
+cast-high c = omega (arith, range-parts _ (c .before .before .before .before .pre))
 
 returns : tie.Need-returns
 unfolding strike-message
 returns c = refl
 
 pub strike-message-spec : {M : Type 1} → statement M
-strike-message-spec = tie.close (tie.spec cast-high (λ c. search needs) cast-bell cast-force returns)
+strike-message-spec = tie.close (tie.spec (λ c. search needs) (λ c. search needs) add-second cast-second cast-high (λ c. search needs) returns)

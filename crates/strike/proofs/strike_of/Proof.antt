@@ -13,10 +13,16 @@ value : (c : tie.Start) (i : ℕ) → i < 4 → getD (c .args .t1) i 0 < 27
 unfolding at
 value c i h = rw getD-take at (value-below _ (c .pre) i h)
 
-mul-delay : tie.Need-mul-t17
+mul-bell : tie.Need-mul-t17
+mul-bell c = omega (arith, value c 1 (omega arith))
+
+add-bell : tie.Need-add-t18
+add-bell c = omega (arith, value c 0 (omega arith), value c 1 (omega arith))
+
+mul-delay : tie.Need-mul-t20
 mul-delay c = omega (arith, value c 2 (omega arith))
 
-add-delay : tie.Need-add-t18
+add-delay : tie.Need-add-t21
 add-delay c = omega (arith, value c 2 (omega arith), value c 3 (omega arith))
 
 returns : tie.Need-returns
@@ -37,6 +43,8 @@ strike-of-spec =
     (λ c. search needs)
     (search needs)
     (λ c. search needs)
+    mul-bell
+    add-bell
     mul-delay
     add-delay
     returns)

@@ -1,11 +1,12 @@
--- `book::reading::read_symbols` meets its contract: it goes by what `any_above` and `decode_card` answer, as `card-refusal` does.
-use mathlib.Core.Path.{_≡_, sym, _∙_}
+-- `book::reading::read_symbols` meets its contract: it goes by what `any_above`, `decode_card` and `no_bell` answer, as `card-refusal` does.
+use mathlib.Core.Path.{_≡_, sym, _∙_, ap}
 use mathlib.Core.Bool.{false}
 use native.Mathlib.Omega.{arith}
 use borrow.Author.Needs.{needs}
 use borrow.Author.Tests.{not-true, not-false}
 use Rattle.algebra.specs.Tests.{any-above}
-use Rattle.book.specs.CardReading.{card-range, found-none, found-strike, found-near, decoded-message, card-passes}
+use Rattle.strike.specs.Strikes.{no-bell}
+use Rattle.book.specs.CardReading.{card-range, found-none, found-near, found-bell, found-strike, decoded-message, card-passes}
 use Rattle.book.proofs.reading.read_symbols.Statement.{statement}
 use Rattle.book.proofs.reading.read_symbols.Tie as tie
 
@@ -34,10 +35,20 @@ strike-of-requires c κs =
 
 returns-3 : tie.Need-returns-3
 returns-3 c =
-    let e = c .before .before .before in
+    let t = c .before .before in
+    let e = t .before .before .before in
     let d = e .before .before in
-    rw (c .strike-of .ensures)
-    (found-strike _ (d .decode-card .result) (inside (d .before)) (d .decode-card .ensures .0) (d .decode-card .ensures .1) (not-false _ (e .if2 .left)))
+    let b = sym (c .before .no-bell .ensures ∙ ap no-bell (t .strike-of .ensures)) ∙ c .if3 .taken in
+    found-bell _ (d .decode-card .result) (inside (d .before)) (d .decode-card .ensures .0) (not-false _ (e .if2 .left)) b
+
+returns-4 : tie.Need-returns-4
+returns-4 c =
+    let t = c .before .before in
+    let e = t .before .before .before in
+    let d = e .before .before in
+    let b = sym (c .before .no-bell .ensures ∙ ap no-bell (t .strike-of .ensures)) ∙ c .if3 .left in
+    rw (t .strike-of .ensures)
+    (found-strike _ (d .decode-card .result) (inside (d .before)) (d .decode-card .ensures .0) (d .decode-card .ensures .1) (not-false _ (e .if2 .left)) b)
 
 pub read-symbols-spec : {M : Type 1} → statement M
 read-symbols-spec =
@@ -49,4 +60,6 @@ read-symbols-spec =
     decode-card-requires
     returns-2
     strike-of-requires
-    returns-3)
+    (λ c κs. search needs)
+    returns-3
+    returns-4)
