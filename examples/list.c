@@ -15,7 +15,12 @@ int main(int argc, char **argv) {
         return 2;
     }
     size_t length = fread(book, 1, sizeof book, file);
+    int failed = ferror(file);
     fclose(file);
+    if (failed) {
+        fprintf(stderr, "cannot read the book\n"); /* not to be taken for an empty file, a book of no tunes */
+        return 2;
+    }
 
     uint32_t number, cards;
     for (uint32_t place = 0; lucetcoral_tune_at(book, length, place, &number, &cards) == LUCETCORAL_DONE; place++) {

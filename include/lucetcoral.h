@@ -8,7 +8,7 @@
 
    LISTS AND POINTERS. A list is a pointer and a count of entries, not of bytes. The pointer must be valid and aligned for that many entries.
    - With a count of 0 it may be NULL, or any other pointer: nothing is read or written through it. The list is then empty. Most functions refuse
-     an empty list; an empty body has 0 ticks and no damaged card, and a book may have no tunes.
+     an empty list; an empty book has no tunes, an empty body has 0 ticks and no damaged card, and a book may be written of no tunes.
    - A pointer to a single number must be valid and aligned, and never NULL, even in a call that is refused.
    - What a call is lent to fill must not overlap anything else that it is lent, and need not be initialised.
    - While a call runs, nothing else may write what it was lent, or read what it was lent to fill.
@@ -36,7 +36,7 @@ extern "C" {
 /* The version of this interface. As long as MAJOR is 0, MINOR is raised by every change of what a call takes, answers or refuses and of every
    name or number below, PATCH by all other changes. The archive holds no version of its own. */
 #define LUCETCORAL_VERSION_MAJOR 0
-#define LUCETCORAL_VERSION_MINOR 8
+#define LUCETCORAL_VERSION_MINOR 9
 #define LUCETCORAL_VERSION_PATCH 0
 
 /* What a function returns (section 7). */
@@ -124,7 +124,7 @@ uint32_t lucetcoral_symbols(const int16_t *levels, size_t levels_len, uint16_t *
    sample. 2. */
 uint32_t lucetcoral_receive(const int16_t *samples, size_t samples_len, uint16_t *card, size_t card_len);
 
-/* Open (8.5): the number of tunes of a book. 5, 6, 7. */
+/* Open (8.5): the number of tunes of a book, 0 if it has no bytes. 5, 6, 7. */
 uint32_t lucetcoral_open(const uint8_t *book, size_t book_len, uint32_t *tunes);
 
 /* Pull (8.6): the part of the book that is the tune's body, as its offset in the book and its length. 5, 6, 7, 8. */

@@ -197,6 +197,10 @@ fn big_endian(bytes: &[u8]) -> usize {
 }
 
 fn contents(book: &[u8]) -> Result<Vec<Entry>, Refusal> {
+    // A file of no bytes is a book of no tunes.
+    if book.is_empty() {
+        return Ok(vec![]);
+    }
     if book.len() > LONGEST_BOOK {
         return Err(Refusal::BookSize);
     }

@@ -3,6 +3,7 @@
 //! hand.
 
 use crate::library::Library;
+use std::ptr;
 
 mod raw {
     // Passed to the linker with the final program, and kept out of this
@@ -120,24 +121,43 @@ mod raw {
 }
 
 /// The proved library. Its calls are sound for all arguments: each pointer
-/// comes from a reference, or from a slice with its own length, and the
-/// contracts ask nothing more.
-pub struct Proved;
+/// comes from a reference, or from a slice with its own length, or is NULL with
+/// the length 0, and the contracts ask nothing more.
+pub struct Proved<const EMPTY_AS_NULL: bool = false>;
 
-impl Library for Proved {
+/// The same, with every empty list lent as NULL.
+pub type ProvedWithNull = Proved<true>;
+
+impl<const EMPTY_AS_NULL: bool> Proved<EMPTY_AS_NULL> {
+    fn start<T>(list: &[T]) -> *const T {
+        match EMPTY_AS_NULL && list.is_empty() {
+            true => ptr::null(),
+            false => list.as_ptr(),
+        }
+    }
+
+    fn start_mut<T>(list: &mut [T]) -> *mut T {
+        match EMPTY_AS_NULL && list.is_empty() {
+            true => ptr::null_mut(),
+            false => list.as_mut_ptr(),
+        }
+    }
+}
+
+impl<const EMPTY_AS_NULL: bool> Library for Proved<EMPTY_AS_NULL> {
     fn encode(k: u32, message: &[u16], word: &mut [u16]) -> u32 {
-        let (message, message_len) = (message.as_ptr(), message.len());
-        let (word, word_len) = (word.as_mut_ptr(), word.len());
+        let (message, message_len) = (Self::start(message), message.len());
+        let (word, word_len) = (Self::start_mut(word), word.len());
         unsafe { raw::lucetcoral_encode(k, message, message_len, word, word_len) }
     }
 
     fn weight(symbols: &[u16], rank: &mut u32) -> u32 {
-        unsafe { raw::lucetcoral_weight(symbols.as_ptr(), symbols.len(), rank) }
+        unsafe { raw::lucetcoral_weight(Self::start(symbols), symbols.len(), rank) }
     }
 
     fn syndrome(k: u32, received: &[u16], values: &mut [u16]) -> u32 {
-        let (received, received_len) = (received.as_ptr(), received.len());
-        let (values, values_len) = (values.as_mut_ptr(), values.len());
+        let (received, received_len) = (Self::start(received), received.len());
+        let (values, values_len) = (Self::start_mut(values), values.len());
         unsafe { raw::lucetcoral_syndrome(k, received, received_len, values, values_len) }
     }
 
@@ -151,11 +171,11 @@ impl Library for Proved {
         unsafe {
             raw::lucetcoral_decode(
                 k,
-                received.as_ptr(),
+                Self::start(received),
                 received.len(),
-                word.as_mut_ptr(),
+                Self::start_mut(word),
                 word.len(),
-                message.as_mut_ptr(),
+                Self::start_mut(message),
                 message.len(),
                 distance,
             )
@@ -174,13 +194,13 @@ impl Library for Proved {
         unsafe {
             raw::lucetcoral_decode_dead(
                 k,
-                received.as_ptr(),
+                Self::start(received),
                 received.len(),
                 dead_rows,
                 dead_columns,
-                word.as_mut_ptr(),
+                Self::start_mut(word),
                 word.len(),
-                message.as_mut_ptr(),
+                Self::start_mut(message),
                 message.len(),
                 rank,
             )
@@ -188,75 +208,75 @@ impl Library for Proved {
     }
 
     fn open(book: &[u8], tunes: &mut u32) -> u32 {
-        unsafe { raw::lucetcoral_open(book.as_ptr(), book.len(), tunes) }
+        unsafe { raw::lucetcoral_open(Self::start(book), book.len(), tunes) }
     }
 
     fn tune_body(book: &[u8], number: u32, offset: &mut u32, length: &mut u32) -> u32 {
-        unsafe { raw::lucetcoral_tune_body(book.as_ptr(), book.len(), number, offset, length) }
+        unsafe { raw::lucetcoral_tune_body(Self::start(book), book.len(), number, offset, length) }
     }
 
     fn read_card(body: &[u8], number: u32, strike: &mut [u32; 4]) -> u32 {
-        let (body, body_len) = (body.as_ptr(), body.len());
+        let (body, body_len) = (Self::start(body), body.len());
         let [bell, force, delay, damage] = strike;
         unsafe { raw::lucetcoral_read_card(body, body_len, number, bell, force, delay, damage) }
     }
 
     fn total_delay(body: &[u8], ticks: &mut u32) -> u32 {
-        unsafe { raw::lucetcoral_total_delay(body.as_ptr(), body.len(), ticks) }
+        unsafe { raw::lucetcoral_total_delay(Self::start(body), body.len(), ticks) }
     }
 
     fn damaged_card(body: &[u8], card: &mut u32) -> u32 {
-        unsafe { raw::lucetcoral_damaged_card(body.as_ptr(), body.len(), card) }
+        unsafe { raw::lucetcoral_damaged_card(Self::start(body), body.len(), card) }
     }
 
     fn wear(body: &[u8], width: u32, sum: &mut u32, first: &mut u32) -> u32 {
-        unsafe { raw::lucetcoral_wear(body.as_ptr(), body.len(), width, sum, first) }
+        unsafe { raw::lucetcoral_wear(Self::start(body), body.len(), width, sum, first) }
     }
 
     fn tune_at(book: &[u8], place: u32, number: &mut u32, cards: &mut u32) -> u32 {
-        unsafe { raw::lucetcoral_tune_at(book.as_ptr(), book.len(), place, number, cards) }
+        unsafe { raw::lucetcoral_tune_at(Self::start(book), book.len(), place, number, cards) }
     }
 
     fn list(book: &[u8], text: &mut [u8], written: &mut usize) -> u32 {
-        let (book, book_len) = (book.as_ptr(), book.len());
-        let (text, text_len) = (text.as_mut_ptr(), text.len());
+        let (book, book_len) = (Self::start(book), book.len());
+        let (text, text_len) = (Self::start_mut(text), text.len());
         unsafe { raw::lucetcoral_list(book, book_len, text, text_len, written) }
     }
 
     fn write_book(numbers: &[u16], counts: &[u16], strikes: &[u16], book: &mut [u8]) -> u32 {
         unsafe {
             raw::lucetcoral_write_book(
-                numbers.as_ptr(),
+                Self::start(numbers),
                 numbers.len(),
-                counts.as_ptr(),
+                Self::start(counts),
                 counts.len(),
-                strikes.as_ptr(),
+                Self::start(strikes),
                 strikes.len(),
-                book.as_mut_ptr(),
+                Self::start_mut(book),
                 book.len(),
             )
         }
     }
 
     fn book_size(counts: &[u16], size: &mut usize) -> u32 {
-        unsafe { raw::lucetcoral_book_size(counts.as_ptr(), counts.len(), size) }
+        unsafe { raw::lucetcoral_book_size(Self::start(counts), counts.len(), size) }
     }
 
     fn levels(card: &[u16], levels: &mut [i16]) -> u32 {
-        let (card, card_len) = (card.as_ptr(), card.len());
-        let (levels, levels_len) = (levels.as_mut_ptr(), levels.len());
+        let (card, card_len) = (Self::start(card), card.len());
+        let (levels, levels_len) = (Self::start_mut(levels), levels.len());
         unsafe { raw::lucetcoral_levels(card, card_len, levels, levels_len) }
     }
 
     fn symbols(levels: &[i16], card: &mut [u16]) -> u32 {
-        let (levels, levels_len) = (levels.as_ptr(), levels.len());
-        let (card, card_len) = (card.as_mut_ptr(), card.len());
+        let (levels, levels_len) = (Self::start(levels), levels.len());
+        let (card, card_len) = (Self::start_mut(card), card.len());
         unsafe { raw::lucetcoral_symbols(levels, levels_len, card, card_len) }
     }
 
     fn receive(samples: &[i16], card: &mut [u16]) -> u32 {
-        let (samples, samples_len) = (samples.as_ptr(), samples.len());
-        let (card, card_len) = (card.as_mut_ptr(), card.len());
+        let (samples, samples_len) = (Self::start(samples), samples.len());
+        let (card, card_len) = (Self::start_mut(card), card.len());
         unsafe { raw::lucetcoral_receive(samples, samples_len, card, card_len) }
     }
 }

@@ -567,8 +567,11 @@ fn big_endian(bytes: &[u8]) -> usize {
 
 /// The entries of a well-formed book.
 fn contents(book: &[u8]) -> Result<&[[u8; 8]], Refusal> {
-    if book.len() > 65_536 || book.len() < 2 {
-        return Err(Refusal::BookSize);
+    match book.len() {
+        // A file of no bytes is a book of no tunes.
+        0 => return Ok(&[]),
+        2..=65_536 => {}
+        _ => return Err(Refusal::BookSize),
     }
     let count = big_endian(&book[..2]);
     let bytes = book.get(2..2 + 8 * count).ok_or(Refusal::BookSize)?;
@@ -722,7 +725,9 @@ fn list(book: &[u8], text: &mut Text) {
             return text.push(b"\n");
         }
     };
-    let (mut cards, _) = book[2 + 8 * entries.len()..].as_chunks();
+    // A file of no bytes has no place where bodies could begin.
+    let bodies = book.get(2 + 8 * entries.len()..).unwrap_or_default();
+    let (mut cards, _) = bodies.as_chunks();
     for entry in entries {
         let (body, rest) = cards.split_at(big_endian(&entry[6..]));
         list_tune(big_endian(&entry[..2]), body, text);

@@ -33,6 +33,7 @@ pub fn calls(seed: u64) -> Vec<Call> {
     calls.extend(bell_calls(random));
     calls.extend(no_bell_calls(random));
     calls.extend(place_calls(random));
+    calls.extend(empty_file_calls());
     calls.extend(write_calls(random));
     calls.extend(size_calls());
     calls.extend(dead_cases());
@@ -416,7 +417,7 @@ fn no_bell_calls(random: &mut Random) -> Vec<Call> {
 
 /// Places of the contents: all of them, those past the last, some that are a
 /// place in their low bits or after a product by the 8 bytes of an entry, and
-/// books that are refused.
+/// books that are refused or have no tunes.
 fn place_calls(random: &mut Random) -> Vec<Call> {
     let one = || vec![0; 12];
     let book = samples::book(&[(1, one()), (256, [one(), one()].concat()), (9_999, one())]);
@@ -439,6 +440,25 @@ fn place_calls(random: &mut Random) -> Vec<Call> {
         let mut faulty = small.clone();
         faulty[place] ^= *random.pick(&[1, 2, 16, 128, 255]);
         calls.push(tune_at(&faulty, 1 + place as u32 % 2));
+    }
+    calls
+}
+
+/// The file of no bytes, from which no tune can be pulled; files of one byte,
+/// which are refused first; and no tunes, for books that are not two bytes long.
+fn empty_file_calls() -> Vec<Call> {
+    let mut calls = vec![tune_at(&[], u32::MAX)];
+    for book in [&[][..], &[1], &[255]] {
+        calls.push(open(book));
+    }
+    for number in [0, 1, 9_999, 10_000, u32::MAX] {
+        calls.push(tune_body(&[], number));
+    }
+    for book in [&[0][..], &[1], &[255], &[0, 0]] {
+        calls.push(tune_body(book, 1));
+    }
+    for size in [0, 1, 3] {
+        calls.push(write_book_of(&Tunes::default(), size));
     }
     calls
 }

@@ -291,8 +291,9 @@ fn refused_books() {
         book
     };
     let books = [
-        (vec![], 5),
         (vec![0], 5),
+        (vec![1], 5),
+        (vec![255], 5),
         (changed(1, 200), 5),
         (changed(2, 255), 6),
         (changed(11, good[3]), 6),
@@ -303,6 +304,41 @@ fn refused_books() {
     ];
     for (book, refusal) in books {
         check_refused("refused_books.book", &book, refusal);
+    }
+}
+
+/// A file of no bytes, and other inputs that end at once: nothing is printed.
+#[test]
+fn empty_file() {
+    check_book("empty_file.book", &[]);
+    let example = repository("examples/empty.book");
+    let bytes = fs::read(&example).expect("an example");
+    assert_eq!(bytes, [], "examples/empty.book is no empty file");
+    let nowhere = Path::new("/dev/null");
+    for reader in READERS {
+        for path in [&example, nowhere] {
+            expect_printed(reader.command().arg(path), "");
+            expect_printed(reader.command().stdin(open(path)), "");
+        }
+        let (closed, writer) = io::pipe().expect("a pipe");
+        drop(writer);
+        expect_printed(reader.command().stdin(closed), "");
+        let late = pipe(vec![vec![]], milliseconds(50));
+        expect_printed(reader.command().stdin(late), "");
+    }
+}
+
+/// Books without tunes: nothing is written, so that an output that would fail
+/// does not.
+#[test]
+fn nothing_to_write() {
+    for book in [&[][..], &[0, 0]] {
+        let path = file("nothing_to_write.book", book);
+        for reader in READERS {
+            assert_eq!((reader.text)(book), "");
+            assert!(writes(reader.command().arg(&path)).is_empty());
+            on_failing_outputs(&reader, &path, |command| expect_printed(command, ""));
+        }
     }
 }
 
@@ -349,11 +385,12 @@ fn inputs_that_fail() {
     }
 }
 
-/// A read that fails after some bytes were read.
+/// A read that fails after some bytes were read; or at once, which is not taken
+/// for an empty file.
 #[test]
 fn input_that_fails_late() {
     let book = fs::read(repository("examples/clean.book")).expect("an example");
-    for len in [1, book.len() - 1, book.len()] {
+    for len in [0, 1, book.len() - 1, book.len()] {
         for reader in READERS {
             let (input, mut writer) = io::pipe().expect("a pipe");
             set_nonblocking(&input);
@@ -384,26 +421,25 @@ fn sh(script: &str) -> Command {
 
 #[test]
 fn outputs_that_fail() {
-    for book in [samples::longest_listing(), vec![0, 1], vec![]] {
+    for book in [samples::longest_listing(), vec![0, 1], vec![0]] {
         let path = file("outputs_that_fail.book", &book);
         for reader in READERS {
-            expect_unwritten(&reader, &path);
+            on_failing_outputs(&reader, &path, |command| expect_said(command, CANNOT_WRITE));
         }
         assert!(fs::read(&path).unwrap() == book, "the book was changed");
     }
 }
 
-/// Panics unless the program says that it could not write, whether the output
-/// is full or closed.
-fn expect_unwritten(reader: &Reader, path: &Path) {
+/// Hands over the program on a book with outputs that are full or closed.
+fn on_failing_outputs(reader: &Reader, path: &Path, expect: impl Fn(&mut Command)) {
     let full = File::options().write(true).open("/dev/full");
     let full = full.expect("an output that is always full");
-    expect_said(reader.command().arg(path).stdout(full), CANNOT_WRITE);
+    expect(reader.command().arg(path).stdout(full));
     let closed = r#"exec "$0" <"$1" >&-"#;
     let closed_named = r#"exec "$0" "$1" >&-"#;
     for script in [closed, closed_named] {
         let arguments = [&program(reader.name), path];
-        expect_said(sh(script).args(arguments), CANNOT_WRITE);
+        expect(sh(script).args(arguments));
     }
 }
 

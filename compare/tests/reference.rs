@@ -91,6 +91,7 @@ fn boundary_cases() {
     assert_eq!(weight(&[729; 6]), Err(Refusal::Range));
     assert!(encode(1, &[26, 26], 6).is_ok());
     assert_eq!(encode(1, &[26, 27], 6), Err(Refusal::Range));
+    assert_eq!(book::open(&[]), Ok(0));
     assert_eq!(book::open(&[0]), Err(Refusal::BookSize));
     assert_eq!(book::open(&[0, 0]), Ok(0));
     assert_eq!(book::open(&[0, 0, 0]), Err(Refusal::Layout));
@@ -413,6 +414,35 @@ fn book_refusals() {
     assert_eq!(book::total_delay(&[0; 13]), Err(Refusal::Length));
 }
 
+/// A file of no bytes is a book of no tunes.
+#[test]
+fn empty_file() {
+    for number in [0, 1, 9_999, 10_000, u32::MAX] {
+        assert_eq!(book::tune_body(&[], number), Err(Refusal::NoSuchTune));
+        assert_eq!(book::tune_at(&[], number), Err(Refusal::NoSuchTune));
+    }
+    assert_eq!(book::listing(&[]), "");
+    assert_eq!(book::wear_report(&[]), "");
+    assert_eq!(book::list(&[], 131_072), Ok(String::new()));
+    assert_eq!(book::list(&[], 131_071), Err(Refusal::Length));
+}
+
+/// A file of one byte is no book, and one of two only if they are zeros.
+#[test]
+fn shortest_files() {
+    for byte in 0..=255 {
+        assert_eq!(book::open(&[byte]), Err(Refusal::BookSize));
+        assert_eq!(book::tune_body(&[byte], 1), Err(Refusal::BookSize));
+        assert_eq!(book::tune_at(&[byte], 0), Err(Refusal::BookSize));
+        assert_eq!(book::listing(&[byte]), "book refused 5\n");
+        assert_eq!(book::wear_report(&[byte]), "book refused 5\n");
+    }
+    for count in 1..=u16::MAX {
+        assert_eq!(book::open(&count.to_be_bytes()), Err(Refusal::BookSize));
+    }
+    assert_eq!(book::tune_body(&[0, 0], 1), Err(Refusal::NoSuchTune));
+}
+
 /// The readable strikes of the paper's book.
 #[test]
 fn writing_case() {
@@ -433,7 +463,12 @@ fn writing_case() {
     assert_eq!(book[..10], [0, 2, 0, 7, 0, 0, 0, 18, 0, 1]);
     assert_eq!(book[10..18], [1, 44, 0, 0, 0, 30, 0, 2]);
     assert_eq!(book[18..], samples::body(&cards));
+    // No tunes are written as two bytes, and never as none.
     assert_eq!(write_book(&[], &[], &[], 2), Ok(vec![0, 0]));
+    for book_len in [0, 1, 3] {
+        let refused = write_book(&[], &[], &[], book_len);
+        assert_eq!(refused, Err(Refusal::Length));
+    }
 
     // The force is in value 1, and the delay 27·m2 + m3.
     let book = write_book(&[1], &[1], &[0, 1, 0], 22).unwrap();

@@ -13,6 +13,7 @@ use compare::strike::{meaning, LARGEST_FIELDS};
 pub mod bells;
 pub mod cable;
 pub mod dead;
+pub mod empty;
 pub mod wear;
 pub mod writing;
 
@@ -872,6 +873,21 @@ macro_rules! suite {
         }
 
         #[test]
+        fn empty_no_bytes() {
+            suite::empty::no_bytes::<$library>();
+        }
+
+        #[test]
+        fn empty_one_byte() {
+            suite::empty::one_byte::<$library>();
+        }
+
+        #[test]
+        fn empty_two_bytes() {
+            suite::empty::two_bytes::<$library>();
+        }
+
+        #[test]
         fn bodies() {
             suite::bodies::<$library>();
         }
@@ -1034,6 +1050,21 @@ macro_rules! suite {
         #[test]
         fn read_and_written() {
             suite::writing::read_and_written::<$library>();
+        }
+
+        #[test]
+        fn write_no_tunes() {
+            suite::writing::no_tunes::<$library>();
+        }
+
+        #[test]
+        fn write_shortest_books() {
+            suite::writing::shortest_books::<$library>();
+        }
+
+        #[test]
+        fn clean_books_are_written_again() {
+            suite::writing::clean_books::<$library>();
         }
 
         #[test]

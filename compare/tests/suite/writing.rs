@@ -1,8 +1,9 @@
 //! The writing of books: random tunes, all faults in all combinations, every
 //! boundary, and books read back and written again.
 
+use super::expect_known;
 use compare::book::LONGEST_BOOK;
-use compare::call::Call;
+use compare::call::{wide, Call, Outcome};
 use compare::library::Library;
 use compare::random::Random;
 use compare::samples;
@@ -443,11 +444,19 @@ pub fn sizes<L: Library>() {
     }
 }
 
-/// What is read of a book: its tunes, and the damage of each card.
-fn read_book<L: Library>(book: &[u8]) -> (Tunes, Vec<u32>) {
+fn done(status: u32) -> Result<(), u32> {
+    match status {
+        0 => Ok(()),
+        refusal => Err(refusal),
+    }
+}
+
+/// What is read of a book: its tunes, and the damage of each card; or the
+/// refusal of the book or of a card.
+fn read_book<L: Library>(book: &[u8]) -> Result<(Tunes, Vec<u32>), u32> {
     let (mut tunes, mut damages) = (Tunes::default(), vec![]);
     let mut count = 0;
-    assert_eq!(L::open(book, &mut count), 0);
+    done(L::open(book, &mut count))?;
     for place in 0..count {
         let [mut number, mut cards, mut offset, mut length] = [0; 4];
         assert_eq!(L::tune_at(book, place, &mut number, &mut cards), 0);
@@ -458,13 +467,13 @@ fn read_book<L: Library>(book: &[u8]) -> (Tunes, Vec<u32>) {
         tunes.counts.push(cards as u16);
         for number in 1..=cards {
             let mut strike = [0; 4];
-            assert_eq!(L::read_card(body, number, &mut strike), 0);
+            done(L::read_card(body, number, &mut strike))?;
             let [fields @ .., damage] = strike;
             tunes.strikes.extend(fields.map(|field| field as u16));
             damages.push(damage);
         }
     }
-    (tunes, damages)
+    Ok((tunes, damages))
 }
 
 fn write_book<L: Library>(random: &mut Random, tunes: &Tunes) -> Vec<u8> {
@@ -499,7 +508,7 @@ pub fn written_and_read<L: Library>() {
 
 fn check_read_back<L: Library>(random: &mut Random, tunes: &Tunes) {
     let book = write_book::<L>(random, tunes);
-    let (read, damages) = read_book::<L>(&book);
+    let (read, damages) = read_book::<L>(&book).unwrap();
     assert_eq!(read, *tunes);
     assert!(damages.iter().all(|damage| *damage == 0));
 }
@@ -522,10 +531,84 @@ pub fn read_and_written<L: Library>() {
             damaged.push((number, bytes(|sent| sent.received)));
         }
         let clean = samples::book(&clean);
-        let (tunes, damages) = read_book::<L>(&clean);
+        let (tunes, damages) = read_book::<L>(&clean).unwrap();
         assert!(damages.iter().all(|damage| *damage == 0));
         assert!(write_book::<L>(&mut random, &tunes) == clean, "{tunes:?}");
-        let (mended, _) = read_book::<L>(&samples::book(&damaged));
+        let (mended, _) = read_book::<L>(&samples::book(&damaged)).unwrap();
         assert_eq!(mended, tunes);
     }
+}
+
+/// No tunes are written as two zeros, and into no book of another length.
+pub fn no_tunes<L: Library>() {
+    let mut random = Random::new(2_900);
+    expect_known::<L>(Call::BookSize { counts: vec![] }, Ok(vec![2]));
+    for len in 0..=30 {
+        let before = random.bytes(len);
+        let (status, after) = match len {
+            2 => (0, vec![0, 0]),
+            _ => (2, before.clone()),
+        };
+        let known = Outcome {
+            status,
+            numbers: vec![],
+            lists: vec![wide(&after)],
+        };
+        let call = call(&Tunes::default(), before);
+        assert_eq!(call.expected(), known, "{call:?}");
+        call.expect::<L>(&known);
+    }
+}
+
+/// Good tunes, for a book of no bytes or of one: none is so short.
+pub fn shortest_books<L: Library>() {
+    let mut random = Random::new(2_910);
+    for turn in 0..2_000 {
+        let counts = some_counts(&mut random, turn % 20);
+        let tunes = samples::tunes(&mut random, &counts);
+        for len in [0, 1] {
+            let call = call(&tunes, random.bytes(len));
+            let expected = call.expected();
+            assert_eq!(expected.status, 2, "{call:?}");
+            call.expect::<L>(&expected);
+        }
+    }
+}
+
+/// Whether a book is opened and its cards are all read without damage. Panics
+/// unless such a book has the same bytes when what is read of it is written
+/// again. The file of no bytes alone has others: those of no tunes.
+fn check_clean<L: Library>(random: &mut Random, book: &[u8]) -> bool {
+    match read_book::<L>(book) {
+        Ok((tunes, damages)) if damages.iter().all(|damage| *damage == 0) => {
+            let known = if book.is_empty() { &[0, 0] } else { book };
+            assert_eq!(write_book::<L>(random, &tunes), known);
+            true
+        }
+        _ => false,
+    }
+}
+
+/// Books that were written, all their beginnings, and single-byte faults in
+/// each place: some of them are clean still.
+pub fn clean_books<L: Library>() {
+    let mut random = Random::new(2_920);
+    assert!(check_clean::<L>(&mut random, &[]));
+    assert!(check_clean::<L>(&mut random, &[0, 0]));
+    let mut clean_faults = 0;
+    for _ in 0..300 {
+        let counts = some_counts(&mut random, 4);
+        let tunes = samples::tunes(&mut random, &counts);
+        let book = write_book::<L>(&mut random, &tunes);
+        for len in 0..=book.len() {
+            let is_clean = check_clean::<L>(&mut random, &book[..len]);
+            assert_eq!(is_clean, len == 0 || len == book.len());
+        }
+        for place in 0..book.len() {
+            let mut faulty = book.clone();
+            faulty[place] ^= 1 + random.below(255) as u8;
+            clean_faults += usize::from(check_clean::<L>(&mut random, &faulty));
+        }
+    }
+    assert!(clean_faults > 100, "only {clean_faults}");
 }

@@ -1,9 +1,9 @@
--- A book that Open accepts: its bodies lie one after another and fill the file, and its tune numbers rise.
--- Main: Accepted-entry, book-within, entries-within; first-begins, parts-adjoin, parts-apart, part-within, part-length, part-some, last-ends,
--- part-good; number-range, numbers-rise, one-entry.
+-- A book that Open accepts: it is empty and has no tunes, or its bodies lie one after another and fill the file; and its tune numbers rise.
+-- Main: Accepted-entry; empty-accepted, empty-tunes, some-bytes, some-tested; book-within, entries-within; first-begins, parts-adjoin, parts-apart,
+-- part-within, part-length, part-some, last-ends, part-good; number-range, numbers-rise, one-entry.
 use mathlib.Core.Path.{_≡_, refl, sym, _∙_, ap}
 use mathlib.Core.Bool.{Bool, true, false, _&&_, _||_, cond, and-eq-true-iff}
-use mathlib.Core.List.{List}
+use mathlib.Core.List.{List, [], _∷_}
 use Prim.Native.Nat.{ℕ, zero, suc, _+_, _*_, _%_, _≤_, _<_}
 use native.Mathlib.Decide.{ℕ-discrete, decLt}
 use native.Mathlib.Numerals.{add-one}
@@ -11,12 +11,12 @@ use native.Mathlib.Omega.{arith}
 use lib.Dec.{ltb, leb, eqb}
 use lib.ListN.{length, drop, length-drop}
 use lib.Seq.{length-take-le}
-use borrow.Author.Tests.{ltb-false, leb-true, eqb-true, not-false, le-leb, eq-eqb}
+use borrow.Author.Tests.{ltb-false, leb-true, eqb-true, not-false, le-leb, eq-eqb, ne-eqb}
 use Rattle.algebra.specs.Tests.{neither}
 use Rattle.refusal.specs.Replies.{number}
 use Rattle.refusal.specs.declared.Refusal.the-variants.{BookSize, TuneNumber, Layout}
-use Rattle.book.specs.Layout.{longest-book, tunes, contents-end, Entries-within, tune-number, offset, cards, part-of, body-good}
-use Rattle.book.specs.Open.{size-bad, numbers-bad, bodies-bad, open-refusal}
+use Rattle.book.specs.Layout.{longest-book, big, tunes, contents-end, Entries-within, tune-number, offset, cards, part-of, body-good}
+use Rattle.book.specs.Open.{size-bad, numbers-bad, bodies-bad, contents-refusal, is-empty, open-refusal}
 use Rattle.book.specs.ContentsLoops.{numbers-on, numbers-start, numbers-next, bodies-on, bodies-start, bodies-next, bodies-end}
 
 -- a book that Open accepts
@@ -27,15 +27,33 @@ Accepted bs = open-refusal bs ≡ 0
 abbrev pub Accepted-entry : List ℕ → (e : ℕ) → Type 0
 Accepted-entry bs e = Accepted bs × (e < tunes bs)
 
+-- THE EMPTY FILE is accepted, and has no tunes
+pub empty-accepted : (bs : List ℕ) → length bs ≡ 0 → Accepted bs
+unfolding open-refusal is-empty
+empty-accepted bs z = rw (eq-eqb (length bs) 0 z)
+
+pub empty-tunes : (bs : List ℕ) → length bs ≡ 0 → tunes bs ≡ 0
+unfolding big
+empty-tunes [] z = refl
+empty-tunes (b ∷ bs) z = absurd (omega arith)
+
+-- ANY OTHER, as every book with a tune is: the tests decide
+pub some-bytes : (bs : List ℕ) (e : ℕ) → e < tunes bs → 1 ≤ length bs
+some-bytes bs e h = elim (ℕ-discrete (length bs) 0) [ yes z ↦ omega (arith, empty-tunes bs z) | no n ↦ omega arith ]
+
+pub some-tested : (bs : List ℕ) → 1 ≤ length bs → open-refusal bs ≡ contents-refusal bs
+unfolding open-refusal is-empty
+some-tested bs l = rw (ne-eqb (length bs) 0 (λ z. omega arith))
+
 -- THE THREE TESTS
 pub record Passed (bs : List ℕ) : Type 0 where
   pub size : size-bad bs ≡ false
   pub numbers : numbers-bad bs ≡ false
   pub bodies : bodies-bad bs ≡ false
 
-pub open-passed : (bs : List ℕ) → Accepted bs → Passed bs
-unfolding open-refusal
-open-passed bs a = go (size-bad bs) refl (numbers-bad bs) refl (bodies-bad bs) refl a
+pub open-passed : (bs : List ℕ) → Accepted bs → 1 ≤ length bs → Passed bs
+unfolding contents-refusal
+open-passed bs a l = go (size-bad bs) refl (numbers-bad bs) refl (bodies-bad bs) refl (sym (some-tested bs l) ∙ a)
   where
     go : (s : Bool) → size-bad bs ≡ s → (n : Bool) → numbers-bad bs ≡ n → (b : Bool) → bodies-bad bs ≡ b
         → cond s (number BookSize) (cond n (number TuneNumber) (cond b (number Layout) 0)) ≡ 0 → Passed bs
@@ -55,10 +73,11 @@ size-within bs e =
     (ltb-false longest-book (length bs) (f .0), ltb-false (length bs) 2 (g .0), λ i k. omega arith)
 
 pub book-within : (bs : List ℕ) → Accepted bs → length bs ≤ longest-book
-book-within bs a = size-within bs (open-passed bs a .size) .0
+book-within bs a =
+    elim (ℕ-discrete (length bs) 0) [ yes z ↦ omega arith | no n ↦ size-within bs (open-passed bs a (omega arith) .size) .0 ]
 
 pub entries-within : (bs : List ℕ) → Accepted bs → Entries-within bs
-entries-within bs a = size-within bs (open-passed bs a .size) .2
+entries-within bs a e h = size-within bs (open-passed bs a (some-bytes bs e h) .size) .2 e h
 
 -- BODIES. Where those before entry e end
 unfoldable pub body-start : List ℕ → (e : ℕ) → ℕ
@@ -74,10 +93,10 @@ bodies-step bs e x h g =
     let p = and-eq-true-iff (leb 1 (cards bs e)) (eqb (offset bs e) x) .0 (b .0) in
     (leb-true 1 (cards bs e) (p .0), eqb-true (offset bs e) x (p .1), b .1)
 
-bodies-pass : (bs : List ℕ) → Accepted bs → (e : ℕ) → e ≤ tunes bs → bodies-on bs e (body-start bs e) ≡ true
+bodies-pass : (bs : List ℕ) → Accepted bs → 1 ≤ length bs → (e : ℕ) → e ≤ tunes bs → bodies-on bs e (body-start bs e) ≡ true
 unfolding body-start
-bodies-pass bs a zero h = not-false (bodies-on bs 0 (contents-end (tunes bs))) (rw bodies-start at (open-passed bs a .bodies))
-bodies-pass bs a (suc e) h = bodies-step bs e (body-start bs e) (omega arith) (bodies-pass bs a e (omega arith)) .2
+bodies-pass bs a l zero h = not-false (bodies-on bs 0 (contents-end (tunes bs))) (rw bodies-start at (open-passed bs a l .bodies))
+bodies-pass bs a l (suc e) h = bodies-step bs e (body-start bs e) (omega arith) (bodies-pass bs a l e (omega arith)) .2
 
 pub start-rises : (bs : List ℕ) (e f : ℕ) → e ≤ f → body-start bs e ≤ body-start bs f
 unfolding body-start
@@ -88,10 +107,10 @@ start-rises bs e (suc f) h =
 module _ (bs : List ℕ) (a : Accepted bs) where
   -- each body begins where those before it end, and has cards
   pub offset-is : (e : ℕ) → e < tunes bs → offset bs e ≡ body-start bs e
-  offset-is e h = bodies-step bs e (body-start bs e) h (bodies-pass bs a e (omega arith)) .1
+  offset-is e h = bodies-step bs e (body-start bs e) h (bodies-pass bs a (some-bytes bs e h) e (omega arith)) .1
 
   pub cards-some : (e : ℕ) → e < tunes bs → 1 ≤ cards bs e
-  cards-some e h = bodies-step bs e (body-start bs e) h (bodies-pass bs a e (omega arith)) .0
+  cards-some e h = bodies-step bs e (body-start bs e) h (bodies-pass bs a (some-bytes bs e h) e (omega arith)) .0
 
   -- the first body begins where the contents ends
   pub first-begins : 0 < tunes bs → offset bs 0 ≡ contents-end (tunes bs)
@@ -99,10 +118,10 @@ module _ (bs : List ℕ) (a : Accepted bs) where
   first-begins h = offset-is 0 h
 
   -- the bodies end with the file
-  pub bodies-fill : body-start bs (tunes bs) ≡ length bs
-  bodies-fill =
+  pub bodies-fill : 1 ≤ length bs → body-start bs (tunes bs) ≡ length bs
+  bodies-fill l =
       eqb-true (body-start bs (tunes bs)) (length bs)
-      (sym (bodies-end bs (tunes bs) (body-start bs (tunes bs)) (omega arith)) ∙ bodies-pass bs a (tunes bs) (omega arith))
+      (sym (bodies-end bs (tunes bs) (body-start bs (tunes bs)) (omega arith)) ∙ bodies-pass bs a l (tunes bs) (omega arith))
 
   part-end : (e : ℕ) → e < tunes bs → offset bs e + 12 * cards bs e ≡ body-start bs (suc e)
   unfolding body-start
@@ -118,11 +137,11 @@ module _ (bs : List ℕ) (a : Accepted bs) where
 
   -- the last part ends with the file
   pub last-ends : (e : ℕ) → suc e ≡ tunes bs → offset bs e + 12 * cards bs e ≡ length bs
-  last-ends e h = part-end e (omega arith) ∙ ap (body-start bs) h ∙ bodies-fill
+  last-ends e h = part-end e (omega arith) ∙ ap (body-start bs) h ∙ bodies-fill (some-bytes bs e (omega arith))
 
   -- each part lies within the file, and is as long as twelve bytes for each of its cards, of which there is at least one
   pub part-within : (e : ℕ) → e < tunes bs → offset bs e + 12 * cards bs e ≤ length bs
-  part-within e h = rw (part-end e h, ← bodies-fill) (start-rises bs (suc e) (tunes bs) h)
+  part-within e h = rw (part-end e h, ← bodies-fill (some-bytes bs e h)) (start-rises bs (suc e) (tunes bs) h)
 
   pub part-length : (e : ℕ) → e < tunes bs → length (part-of bs e) ≡ 12 * cards bs e
   unfolding part-of
@@ -163,14 +182,14 @@ numbers-step bs e l h g =
     let p = and-eq-true-iff (leb l n) (leb n 9999) .0 (b .0) in
     (leb-true l n (p .0), leb-true n 9999 (p .1), b .1)
 
-numbers-pass : (bs : List ℕ) → Accepted bs → (e : ℕ) → e ≤ tunes bs → numbers-on bs e (least-number bs e) ≡ true
+numbers-pass : (bs : List ℕ) → Accepted bs → 1 ≤ length bs → (e : ℕ) → e ≤ tunes bs → numbers-on bs e (least-number bs e) ≡ true
 unfolding least-number
-numbers-pass bs a zero h = not-false (numbers-on bs 0 1) (rw numbers-start at (open-passed bs a .numbers))
-numbers-pass bs a (suc e) h = numbers-step bs e (least-number bs e) (omega arith) (numbers-pass bs a e (omega arith)) .2
+numbers-pass bs a l zero h = not-false (numbers-on bs 0 1) (rw numbers-start at (open-passed bs a l .numbers))
+numbers-pass bs a l (suc e) h = numbers-step bs e (least-number bs e) (omega arith) (numbers-pass bs a l e (omega arith)) .2
 
 module _ (bs : List ℕ) (a : Accepted bs) where
   number-least : (e : ℕ) → e < tunes bs → least-number bs e ≤ tune-number bs e
-  number-least e h = numbers-step bs e (least-number bs e) h (numbers-pass bs a e (omega arith)) .0
+  number-least e h = numbers-step bs e (least-number bs e) h (numbers-pass bs a (some-bytes bs e h) e (omega arith)) .0
 
   -- tune numbers rise strictly
   pub numbers-rise : (e f : ℕ) → e < f → f < tunes bs → tune-number bs e < tune-number bs f
@@ -183,7 +202,7 @@ module _ (bs : List ℕ) (a : Accepted bs) where
   -- tune numbers are 1 to 9,999
   pub number-range : (e : ℕ) → e < tunes bs → (1 ≤ tune-number bs e) × (tune-number bs e ≤ 9999)
   number-range e h =
-      let s = numbers-step bs e (least-number bs e) h (numbers-pass bs a e (omega arith)) in
+      let s = numbers-step bs e (least-number bs e) h (numbers-pass bs a (some-bytes bs e h) e (omega arith)) in
       (omega (arith, s .0, least-some bs e), s .1)
 
   -- at most one entry has a tune number

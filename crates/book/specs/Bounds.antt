@@ -20,7 +20,7 @@ use Rattle.decoder.specs.Filling.{or-empty}
 use Rattle.decoder.specs.Decoding.{decoded-word, damage}
 use Rattle.strike.specs.Strikes.{bell-most, force-most, delay-most, in-range, no-bell, strike-of, strike-good, range-parts}
 use Rattle.book.specs.Layout.{body-good, card}
-use Rattle.book.specs.Open.{size-bad, numbers-bad, bodies-bad, open-refusal}
+use Rattle.book.specs.Open.{size-bad, numbers-bad, bodies-bad, contents-refusal, is-empty, open-refusal}
 use Rattle.book.specs.Reading.{Card-value, no-value, strike-refusal, card-refusal, value-of-card, card-reading, no-card, read-refusal, reading}
 use Rattle.book.specs.CardReading.{Passed, read-passed, decoded-message}
 
@@ -73,11 +73,12 @@ reading-bounded bs n = go (eqb (read-refusal bs n) 0) refl
 
 -- OPEN: a refusal of two digits at most
 pub open-bounded : (bs : List ℕ) → open-refusal bs < 100
-unfolding open-refusal
-open-bounded bs = go (size-bad bs) (numbers-bad bs) (bodies-bad bs)
+unfolding open-refusal contents-refusal
+open-bounded bs = go (is-empty bs) (size-bad bs) (numbers-bad bs) (bodies-bad bs)
   where
-    go : (s n b : Bool) → cond s (number BookSize) (cond n (number TuneNumber) (cond b (number Layout) 0)) < 100
-    go true n b = omega arith
-    go false true b = omega arith
-    go false false true = omega arith
-    go false false false = omega arith
+    go : (z s n b : Bool) → cond z 0 (cond s (number BookSize) (cond n (number TuneNumber) (cond b (number Layout) 0))) < 100
+    go true s n b = omega arith
+    go false true n b = omega arith
+    go false false true b = omega arith
+    go false false false true = omega arith
+    go false false false false = omega arith

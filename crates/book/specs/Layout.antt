@@ -27,7 +27,7 @@ two-bytes n = n / 256 ∷ n % 256 ∷ []
 unfoldable pub four-bytes : (n : ℕ) → List ℕ
 four-bytes n = two-bytes (n / 65536) ++ two-bytes (n % 65536)
 
--- THE CONTENTS. Bytes 0-1: the count N of tunes. Then N entries of 8 bytes
+-- THE CONTENTS. Bytes 0-1: the count N of tunes; 0 in the empty file, as a byte that is not there counts as 0. Then N entries of 8 bytes
 abbrev pub tunes : List ℕ → ℕ
 tunes bs = big bs 0
 

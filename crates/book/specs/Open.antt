@@ -1,5 +1,5 @@
--- What Open refuses (document 01: Open), as three tests of a book.
--- Main: rising, open-refusal.
+-- What Open refuses (document 01: Open), as three tests of a book that is not empty.
+-- Main: rising, contents-refusal, is-empty, open-refusal.
 use mathlib.Core.Bool.{Bool, true, _&&_, _||_, not, cond}
 use mathlib.Core.List.{List, [], _∷_}
 use Prim.Native.Nat.{ℕ, zero, suc, _+_, _*_}
@@ -33,6 +33,14 @@ unfoldable pub bodies-bad : List ℕ → Bool
 bodies-bad bs = not (bodies-good (tunes bs) 0 (contents-end (tunes bs)) bs)
 
 -- 5, 6 and 7, all entries for 6 before any for 7
-unfoldable pub open-refusal : List ℕ → ℕ
-open-refusal bs =
+unfoldable pub contents-refusal : List ℕ → ℕ
+contents-refusal bs =
     cond (size-bad bs) (number BookSize) (cond (numbers-bad bs) (number TuneNumber) (cond (bodies-bad bs) (number Layout) 0))
+
+-- the empty file, of no bytes: a book of no tunes (document 02, P9)
+unfoldable pub is-empty : List ℕ → Bool
+is-empty bs = eqb (length bs) 0
+
+-- nothing of it is tested
+unfoldable pub open-refusal : List ℕ → ℕ
+open-refusal bs = cond (is-empty bs) 0 (contents-refusal bs)

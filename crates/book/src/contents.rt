@@ -74,10 +74,13 @@ fn bodies_bad(book: &[u8], entries: u16) -> bool
     end != book.len()
 }
 
-// The count of tunes, or a refusal: 5, then 6 for all entries, then 7 (document 01: Open).
+// The count of tunes, or a refusal: 5, then 6 for all entries, then 7 (document 01: Open). A file of no bytes is a book of no tunes.
 pub fn open(book: &[u8]) -> Answer
     ensures { λ r. ⌜ reply r ≡ reply-with 0 (open-refusal (now (book .entry))) (tunes (now (book .entry))) ⌝ }
 {
+    if book.len() == 0 {
+        return Answer::Value(0);
+    }
     if size_bad(book) {
         return Answer::Refused(Refusal::BookSize);
     }

@@ -1,5 +1,5 @@
 -- What is demanded of strikes, Open, Pull, Read, Length, Worn, Write and Size, proved: each from the operation's contract.
--- Main: open-says, pull-says, find-says, body-says, strikes-say, read-is, read-says, length-says, worn-says, write-says, size-says.
+-- Main: open-says, pull-says, find-says, body-says, empty-says, strikes-say, read-is, read-says, length-says, worn-says, write-says, size-says.
 use mathlib.Core.Path.{_≡_, refl, sym, ap, _∙_, subst}
 use mathlib.Core.Logic.{_⊎_, inl, inr}
 use mathlib.Core.Bool.{Bool, true, false, _||_, not, cond, true≢false}
@@ -23,8 +23,8 @@ use Rattle.coding.specs.Proved.{decode-none}
 use Rattle.strike.specs.Strikes.{no-bell, strike-of, range-parts, parts-range, strike-good, strike-message-back, message-only, example-means}
 use Rattle.book.specs.declared.reading.Reading.{Reading}
 use Rattle.book.specs.declared.bodies.Worn.{Worn}
-use Rattle.book.specs.Layout.{tunes, part-of, body-good, symbols-from, card}
-use Rattle.book.specs.Open.{size-bad, numbers-bad, bodies-bad, open-refusal}
+use Rattle.book.specs.Layout.{big, tunes, part-of, body-good, symbols-from, card}
+use Rattle.book.specs.Open.{size-bad, numbers-bad, bodies-bad, contents-refusal, is-empty, open-refusal}
 use Rattle.book.specs.Pull.{entry-of, missing, part-at, pull-refusal, pulled}
 use Rattle.book.specs.Reading.{Card-value, no-value, card-refusal, card-reading, read-reply, cards-in, no-card, reading}
 use Rattle.book.specs.Bodies.{body-refusal, total-delay, flawed, is-damaged, first-damaged, worn-reply}
@@ -37,7 +37,7 @@ use Rattle.writer.specs.Writing.{book-length, size-refusal, lengths-good, write
 use Rattle.writer.specs.Shown.{written-shows}
 use Rattle.demands.specs.Settled.{said-once}
 use Rattle.demands.specs.CardDemands.{the-near}
-use Rattle.demands.specs.Demands.{opening-refusal, Open-says, Pulled, Missing, Pull-as, Pull-says}
+use Rattle.demands.specs.Demands.{opening-refusal, Open-says, Pulled, Missing, Pull-as, Pull-says, Empty-says}
 use Rattle.demands.specs.Demands.{Strikes-say, reading-refusal, Read-near, Read-card, Read-as, Read-says}
 use Rattle.demands.specs.Demands.{Delays, no-cards, one-more, Hole, Length-sum, Length-hole, Length-as, Length-says}
 use Rattle.demands.specs.Demands.{Damaged, Worn-card, Worn-as, Worn-says}
@@ -45,7 +45,7 @@ use Rattle.demands.specs.Demands.{writing-refusal, Write-says, Size-says
 
 -- OPEN
 pub open-says : (bs : List ℕ) (r : Answer) → reply r ≡ reply-with 0 (open-refusal bs) (tunes bs) → Open-says bs (reply r)
-unfolding Open-says opening-refusal open-refusal size-bad numbers-bad bodies-bad
+unfolding Open-says opening-refusal open-refusal is-empty contents-refusal size-bad numbers-bad bodies-bad
 open-says bs r e = e
 
 -- PULL
@@ -78,7 +78,7 @@ module _ (bs : List ℕ) (t : ℕ) where
       (pull-refused bs t n ∙ e, pulled-refused bs t n)
 
   pub pull-says : Pull-says bs t (pull-refusal bs t) (pulled bs t)
-  unfolding Pull-says opening-refusal open-refusal size-bad numbers-bad bodies-bad
+  unfolding Pull-says opening-refusal open-refusal is-empty contents-refusal size-bad numbers-bad bodies-bad
   pull-says = pull-as _ refl
 
 pub find-says : (bs : List ℕ) (t : ℕ) (r : Outcome) → outcome r ≡ pull-refusal bs t → (part : List ℕ) × Pull-says bs t (outcome r) part
@@ -86,6 +86,16 @@ find-says bs t r e = (pulled bs t, rw e (pull-says bs t))
 
 pub body-says : (bs : List ℕ) (t : ℕ) (part : List ℕ) → part ≡ pulled bs t → (refusal : ℕ) × Pull-says bs t refusal part
 body-says bs t part e = (pull-refusal bs t, rw e (pull-says bs t))
+
+-- THE EMPTY FILE
+pub empty-says : Empty-says
+unfolding Open-says Pull-says Pull-as Pulled Missing opening-refusal reply-with big
+empty-says = record {
+  opened = λ r e. e;
+  pulled = λ t r part h. elim h [ inl (_, _, (e, b, _, _)) ↦ absurd (omega (arith, b .0)) | inr (e, p, _) ↦ (e, p) ];
+  byte-opened = λ b r e. e;
+  byte-pulled = λ b t r part h. h;
+}
 
 -- WHAT A MESSAGE MEANS
 pub strikes-say : Strikes-say

@@ -5,9 +5,9 @@
 -- (WrittenBooks). Answers are replies (refusal/Replies): `outcome`, `reply`, `weight-reply` (rank/Weight), `read-reply` (book/Reading), `worn-reply`
 -- (book/Bodies), `wear-reply` (wear/Wear) and `signed-reply` (cable/Operations) give them for each case of an enum. A message or a list mu that is
 -- named here is the only one of its kind.
--- Main: Code-says, Press-says, Weigh-says, Test-says, Mend-says, Mend-dead-says, Mends-alike, Open-says, Pull-says, Strikes-say, Read-says,
--- Length-says, Worn-says, Wear-says, Write-says, Size-says, Cable-says, Signed-says, Symbol-says, Levels-says, Symbols-says, Receive-says,
--- Mends-sent.
+-- Main: Code-says, Press-says, Weigh-says, Test-says, Mend-says, Mend-dead-says, Mends-alike, Open-says, Pull-says, Empty-says, Strikes-say,
+-- Read-says, Length-says, Worn-says, Wear-says, Write-says, Size-says, Cable-says, Signed-says, Symbol-says, Levels-says, Symbols-says,
+-- Receive-says, Mends-sent.
 --
 -- THE FIRST DEMAND: every operation ends, does nothing undefined, refuses bad input by number in a fixed order, and then changes nothing.
 -- That it ends and does nothing undefined is what a proof in Rattle is, and no operation has a `requires`. Each `-refusal` below has the numbers
@@ -150,11 +150,12 @@ unfoldable pub Mends-alike : (k : ℕ) → (c : List ℕ) → Reply ℕ → (w w
 Mends-alike k c r w v m n =
     (s : Reply Weight) (u o : List ℕ) → Mend-says k c s w u m o → (r .refusal ≡ s .refusal) × (r .value ≡ s .value .rank) × (v ≡ u) × (n ≡ o)
 
--- OPEN: 5, 6, 7; else the number of tunes
+-- OPEN: of no bytes nothing is refused; 5, 6, 7; else the number of tunes
 unfoldable pub opening-refusal : List ℕ → ℕ
 opening-refusal bs =
-    cond (ltb 65536 (length bs) || (ltb (length bs) 2 || ltb (length bs) (2 + 8 * tunes bs))) 5
-    (cond (not (rising 1 (tune-numbers bs))) 6 (cond (not (bodies-good (tunes bs) 0 (2 + 8 * tunes bs) bs)) 7 0))
+    cond (eqb (length bs) 0) 0
+    (cond (ltb 65536 (length bs) || (ltb (length bs) 2 || ltb (length bs) (2 + 8 * tunes bs))) 5
+    (cond (not (rising 1 (tune-numbers bs))) 6 (cond (not (bodies-good (tunes bs) 0 (2 + 8 * tunes bs) bs)) 7 0)))
 
 unfoldable pub Open-says : List ℕ → Reply ℕ → Type 0
 Open-says bs r = r ≡ reply-with 0 (opening-refusal bs) (tunes bs)
@@ -176,6 +177,13 @@ Pull-as (suc n) bs t r p = (r ≡ suc n) × (p ≡ [])
 
 unfoldable pub Pull-says : List ℕ → (t r : ℕ) → (part : List ℕ) → Type 0
 Pull-says bs t r p = Pull-as (opening-refusal bs) bs t r p
+
+-- THE EMPTY FILE (document 02, P9): Open answers that it has no tunes, Pull answers 8 and gives back nothing; of one byte both answer 5
+pub record Empty-says : Type 0 where
+  pub opened : (r : Reply ℕ) → Open-says [] r → r ≡ replied 0
+  pub pulled : (t r : ℕ) (part : List ℕ) → Pull-says [] t r part → (r ≡ 8) × (part ≡ [])
+  pub byte-opened : (b : ℕ) (r : Reply ℕ) → Open-says (b ∷ []) r → r ≡ refused-with 0 5
+  pub byte-pulled : (b t r : ℕ) (part : List ℕ) → Pull-says (b ∷ []) t r part → (r ≡ 5) × (part ≡ [])
 
 -- WHAT A MESSAGE MEANS (document 02, P8): an example; a message whose bell is at most 47 means a strike in range, and comes back from it; every
 -- strike in range has exactly one message, the one that is pressed

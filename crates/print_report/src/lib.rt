@@ -29,7 +29,7 @@ fn print(kind: Kind, book: &[u8], text: &mut [u8]) -> usize
     }
 }
 
-// Reads a book and prints its report: how many bytes were taken, 0 if there was nothing to read. A book has at most 65,536 bytes: one byte more
+// Reads a book and prints its report: how many bytes were taken, 0 if it could not be read. A book has at most 65,536 bytes: one byte more
 // says that there is more.
 pub fn run(kind: Kind, usage: &[u8]) -> usize
     ensures { λ r. ⌜ r ≤ longest ⌝ }

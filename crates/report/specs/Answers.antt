@@ -1,7 +1,7 @@
 -- What a report is, by what Open says of the book; and what a caller learns from the answer.
--- Main: report-accepted, opened-refused; kind-listing, kind-wear; answer-within, answer-reported, report-read.
-use mathlib.Core.Path.{_≡_, sym, _∙_, ap}
-use mathlib.Core.List.{List}
+-- Main: report-accepted, empty-reported, opened-refused; kind-listing, kind-wear; answer-within, answer-reported, report-read.
+use mathlib.Core.Path.{_≡_, refl, sym, _∙_, ap}
+use mathlib.Core.List.{List, []}
 use Prim.Native.Nat.{ℕ, _≤_, _<_}
 use native.Mathlib.Decide.{decLt}
 use native.Mathlib.Omega.{arith}
@@ -14,8 +14,8 @@ use Rattle.refusal.specs.declared.Refusal.the-variants.{BookSize}
 use Rattle.refusal.specs.declared.Answer.{Answer}
 use Rattle.refusal.specs.declared.Answer.the-variants as answers
 use Rattle.book.specs.Layout.{longest-book, tunes}
-use Rattle.book.specs.Open.{size-bad, open-refusal}
-use Rattle.book.specs.Accepted.{Accepted}
+use Rattle.book.specs.Open.{size-bad, contents-refusal, open-refusal}
+use Rattle.book.specs.Accepted.{Accepted, empty-accepted, empty-tunes, some-tested}
 use Rattle.text.specs.Text.{joined, book-refused, written, room-refusal}
 use Rattle.text.specs.Writing.{written-front}
 use Rattle.listing.specs.Listing.{tune-text}
@@ -44,6 +44,11 @@ module _ (k : Kind) where
   unfolding report
   report-refused bs n = rw (ne-eqb (open-refusal bs) 0 n)
 
+  -- so of the empty file there is nothing to report
+  pub empty-reported : report k [] ≡ []
+  unfolding joined
+  empty-reported = report-accepted [] (empty-accepted [] refl) ∙ ap (joined (tune-report k [])) (empty-tunes [] refl)
+
   -- what Open answered decides
   pub opened-refused : (r : Answer) (why : Refusal) (m : ℕ) (bs : List ℕ) → r ≡ answers.Refused why
       → reply r ≡ reply-with 0 (open-refusal bs) (tunes bs) → m ≡ number why → report k bs ≡ book-refused m
@@ -64,8 +69,8 @@ module _ (k : Kind) where
 
   -- WHO READS one byte more than a book may have, and leaves the rest unread, reports the same: both are too long, or nothing was left
   too-long : (bs : List ℕ) → longest-book < length bs → report k bs ≡ book-refused (number BookSize)
-  unfolding report open-refusal size-bad
-  too-long bs h = rw (lt-ltb longest-book (length bs) h)
+  unfolding report contents-refusal size-bad
+  too-long bs h = rw (some-tested bs (omega arith), lt-ltb longest-book (length bs) h)
 
   pub report-read : (n : ℕ) (bs : List ℕ) → longest-book < n → report k (take n bs) ≡ report k bs
   report-read n bs h = go (decLt longest-book (length bs))

@@ -15,7 +15,7 @@ use Rattle.refusal.specs.declared.Refusal.the-variants.{Range}
 use Rattle.rank.specs.Definitions.{at, is-card, difference, columns, subtract, pivot, cleared, rank-with, rank-from, rank, apart}
 use Rattle.coding.specs.Code.{inner, inner-sum, value, word-from, word, is-message, radius}
 use Rattle.book.specs.Layout.{big, big-four, tunes, tune-numbers, part-of, body-good, symbols-from, card}
-use Rattle.book.specs.Open.{size-bad, rising, numbers-bad, bodies-good, bodies-bad, open-refusal}
+use Rattle.book.specs.Open.{size-bad, rising, numbers-bad, bodies-good, bodies-bad, contents-refusal, is-empty, open-refusal}
 use Rattle.rank.specs.Weight.{weight-of, no-weight}
 use Rattle.strike.specs.Strikes.{no-bell, strike-of}
 use Rattle.book.specs.Reading.{no-value, reading}
@@ -126,7 +126,7 @@ unfolding body-text
 body-listed = ap (λ (l : List ℕ). l ++ ticks-line (total-delay body)) (lines body) ∙ rw (read-first, read-second, read-third, read-fourth, unknown) card-texts
 
 pub accepted : open-refusal example ≡ 0
-unfolding open-refusal size-bad numbers-bad rising tune-numbers table bodies-bad bodies-good big big-four
+unfolding open-refusal is-empty contents-refusal size-bad numbers-bad rising tune-numbers table bodies-bad bodies-good big big-four
 accepted = refl
 
 its-part : part-of example 0 ≡ body

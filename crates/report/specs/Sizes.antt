@@ -4,13 +4,14 @@ use mathlib.Core.Path.{_≡_, refl}
 use mathlib.Core.Bool.{Bool, true, false, cond}
 use mathlib.Core.List.{List}
 use Prim.Native.Nat.{ℕ, zero, suc, _+_, _*_, _≤_, _<_}
+use native.Mathlib.Decide.{ℕ-discrete}
 use native.Mathlib.Omega.{arith}
 use lib.Dec.{eqb}
 use lib.ListN.{length, length-append}
 use borrow.Author.Tests.{eqb-true}
 use Rattle.book.specs.Layout.{tunes, contents-end, cards}
 use Rattle.book.specs.Open.{open-refusal}
-use Rattle.book.specs.Accepted.{Accepted, book-within, body-start, bodies-fill, cards-some}
+use Rattle.book.specs.Accepted.{Accepted, empty-tunes, book-within, body-start, bodies-fill, cards-some}
 use Rattle.book.specs.Bounds.{open-bounded}
 use Rattle.text.specs.Text.{joined, book-refused}
 use Rattle.text.specs.Decimal.{two-digits, spaced-length, book-refused-length}
@@ -36,9 +37,11 @@ module _ (bs : List ℕ) (a : Accepted bs) where
       omega (arith, tunes-short k e (omega arith), tune-short k e (omega arith))
 
   tunes-within : (k : Kind) → length (joined (tune-report k bs) (tunes bs)) ≤ longest
-  tunes-within k =
-      let s = tunes-short k (tunes bs) (omega arith) in
-      omega (arith, bodies-fill bs a, book-within bs a)
+  unfolding joined
+  tunes-within k = elim (ℕ-discrete (length bs) 0) [
+    | yes z ↦ rw (empty-tunes bs z) (omega arith)
+    | no n ↦ omega (arith, tunes-short k (tunes bs) (omega arith), bodies-fill bs a (omega arith), book-within bs a)
+  ]
 
 -- A REFUSED BOOK is one short line
 refused-within : (bs : List ℕ) → length (book-refused (open-refusal bs)) ≤ longest

@@ -1,9 +1,10 @@
 -- A clean book that Open accepts is the book that is written from its own tune numbers, counts and strikes, and the writer does not refuse
--- these.
+-- these; but for the empty file, which the writer never makes (`never-empty` of `Held`).
 -- Main: Again, written-again.
 use mathlib.Core.Path.{_≡_, refl, sym, ap, _∙_}
 use mathlib.Core.Bool.{true}
-use mathlib.Core.List.{List, _++_, append-assoc}
+use mathlib.Core.Logic.{_≢_}
+use mathlib.Core.List.{List, [], _∷_, _++_, append-assoc}
 use Prim.Native.Nat.{ℕ, zero, suc, _+_, _*_, _-_, _≤_, _<_}
 use native.Mathlib.Numerals.{add-one}
 use native.Mathlib.Omega.{arith}
@@ -47,7 +48,7 @@ book-range (suc k) e bs =
     (body-range (cards-in b) 1 b)
     (book-range k (suc e) bs)
 
-module _ (bs : List ℕ) (a : Accepted bs) where
+module _ (bs : List ℕ) (a : Accepted bs) (some : 1 ≤ length bs) where
   abbrev ns : List ℕ
   ns = tune-numbers bs
 
@@ -63,7 +64,7 @@ module _ (bs : List ℕ) (a : Accepted bs) where
       omega (arith, start-is e (omega arith), count-at bs e h, all-cards-take cs e (omega arith))
 
   book-is : length bs ≡ contents-end (tunes bs) + 12 * all-cards cs
-  book-is = sym (bodies-fill bs a) ∙ (rw (take-all (tunes bs) cs (omega (arith, counts-count bs))) at (start-is (tunes bs) (omega arith)))
+  book-is = sym (bodies-fill bs a some) ∙ (rw (take-all (tunes bs) cs (omega (arith, counts-count bs))) at (start-is (tunes bs) (omega arith)))
 
   module _ (bytes : Bytes bs) where
     -- THE CONTENTS: entry e and those after it
@@ -93,7 +94,7 @@ module _ (bs : List ℕ) (a : Accepted bs) where
     contents-again =
         rw (numbers-count bs, append-assoc (two-bytes (tunes bs)) (entries-bytes ns cs (contents-end (tunes bs))) (drop (contents-end (tunes bs)) bs))
         (ap (λ (t : List ℕ). two-bytes (tunes bs) ++ t) (entries-again (tunes bs) 0 (omega arith))
-        ∙ sym (two-written bs bytes 0 2 refl (size-within bs (open-passed bs a .size) .1)))
+        ∙ sym (two-written bs bytes 0 2 refl (size-within bs (open-passed bs a some .size) .1)))
 
     module _ (clean : Clean bs) where
       -- THE BODIES: the body of entry e, and those after it
@@ -108,7 +109,7 @@ module _ (bs : List ℕ) (a : Accepted bs) where
 
       bodies-again : (k e : ℕ) → e + k ≡ tunes bs → cards-bytes (tunes-strikes k e bs) ≡ drop (body-start bs e) bs
       unfolding tunes-strikes cards-bytes part-of body-start
-      bodies-again zero e h = let z : e ≡ tunes bs = omega arith in rw (z, bodies-fill bs a) (sym (drop-length bs))
+      bodies-again zero e h = let z : e ≡ tunes bs = omega arith in rw (z, bodies-fill bs a some) (sym (drop-length bs))
       bodies-again (suc k) e h =
           let g : e < tunes bs = omega arith in
           rw (
@@ -139,17 +140,20 @@ module _ (bs : List ℕ) (a : Accepted bs) where
       unfolding book-length book-strikes numbers-bad
       writable-again =
           let l = counts-count bs in
-          let some : (e : ℕ) → e < length cs → 1 ≤ getD cs e 0 = λ e h. rw (count-at bs e (omega arith)) (cards-some bs a e (omega arith)) in
+          let counts : (e : ℕ) → e < length cs → 1 ≤ getD cs e 0 = λ e h. rw (count-at bs e (omega arith)) (cards-some bs a e (omega arith)) in
           record {
             strikes-in = range-numbers (book-strikes bs) (book-range (tunes bs) 0 bs);
             paired = l ∙ sym (numbers-count bs);
             size = omega (arith, book-is, book-within bs a);
-            rise = not-false (rising 1 ns) (open-passed bs a .numbers);
-            counted = some-counts cs (all-each (λ c. 1 ≤ c) 0 cs some);
+            rise = not-false (rising 1 ns) (open-passed bs a some .numbers);
+            counted = some-counts cs (all-each (λ c. 1 ≤ c) 0 cs counts);
             numbers = length-numbers (book-strikes bs) ∙ omega (arith, strikes-length);
             fits = omega (arith, book-is);
           }
 
 -- WHAT IS CLEAN IS WRITTEN AGAIN
-pub written-again : (bs : List ℕ) → open-refusal bs ≡ 0 → Bytes bs → Clean bs → Again bs
-written-again bs a b c = record { taken = unrefused _ _ _ _ (writable-again bs a b c); same = same-bytes bs a b c }
+pub written-again : (bs : List ℕ) → open-refusal bs ≡ 0 → Bytes bs → Clean bs → bs ≢ [] → Again bs
+written-again [] a b c n = absurd (n refl)
+written-again (x ∷ bs) a b c n =
+    let l : 1 ≤ length (x ∷ bs) = omega arith in
+    record { taken = unrefused _ _ _ _ (writable-again (x ∷ bs) a l b c); same = same-bytes (x ∷ bs) a l b c }

@@ -1,7 +1,8 @@
 -- A written book is bytes, is clean, and holds the strikes that it was written from; so no two triples of lists are written to the same book.
--- With `Again`: the writer makes exactly the clean books that Open accepts, each from one triple of lists.
--- Main: Held, written-held, written-once.
+-- With `Again`: the writer makes exactly the clean books that Open accepts, but for the empty file, each from one triple of lists.
+-- Main: Held, written-held, written-once; empty-clean, never-empty, no-tunes-written.
 use mathlib.Core.Path.{_≡_, refl, sym, ap, _∙_}
+use mathlib.Core.Logic.{_≢_}
 use mathlib.Core.Bool.{true, _&&_}
 use mathlib.Core.List.{List, [], _∷_}
 use Prim.Native.Nat.{ℕ, zero, suc, _+_, _*_, _≤_, _<_}
@@ -18,13 +19,14 @@ use Rattle.coding.specs.Promise.{Words-cards}
 use Rattle.coding.specs.Proved.{words-cards}
 use Rattle.strike.specs.declared.Strike.{Strike}
 use Rattle.strike.specs.Strikes.{in-range, strike-message, no-strike, message-good}
-use Rattle.strike.specs.Turns.{strikes, strike-numbers, numbers-strikes, length-strikes, strikes-range}
+use Rattle.strike.specs.Turns.{any-beyond, strikes, strike-numbers, numbers-strikes, length-strikes, strikes-range}
 use Rattle.book.specs.Layout.{longest-book, contents-end, tune-number, two-bytes, four-bytes, entry-bytes, tune-numbers, card-counts, symbols-bytes}
 use Rattle.book.specs.Open.{rising}
 use Rattle.book.specs.Pull.{pulled}
 use Rattle.book.specs.Reading.{cards-in}
 use Rattle.book.specs.ContentsLoops.{number-at}
-use Rattle.writer.specs.Writing.{all-cards, card-bytes, cards-bytes, entries-bytes, contents-bytes, book-bytes, book-length, write-refusal}
+use Rattle.book.specs.Accepted.{empty-tunes}
+use Rattle.writer.specs.Writing.{all-cards, card-bytes, cards-bytes, entries-bytes, contents-bytes, book-bytes, book-length, any-zero, lengths-good, write-refusal}
 use Rattle.writer.specs.Holding.{strikes-from, body-strikes, tunes-strikes, book-strikes, Bytes, Clean}
 use Rattle.writer.specs.Layouts.{all-cards-take, all-cards-part}
 use Rattle.writer.specs.Writable.{Writable, writable}
@@ -163,3 +165,16 @@ written-once ns cs ss ms ds ts r q e f b =
       sym (s .counts-are) ∙ ap card-counts b ∙ t .counts-are,
       sym (h .strikes-held) ∙ ap (λ (l : List ℕ). strike-numbers (book-strikes l)) b ∙ i .strikes-held,
     )
+
+-- THE EMPTY FILE is clean, but never written: a book begins with its count of tunes, and of no tunes that is all of it
+pub empty-clean : Clean []
+unfolding Clean
+empty-clean e n h low high = absurd (omega (arith, empty-tunes [] refl, h))
+
+pub never-empty : (ns cs ss : List ℕ) → book-bytes ns cs ss ≢ []
+unfolding book-bytes contents-bytes two-bytes
+never-empty ns cs ss e = let z : _≡_ {A = ℕ} (length (book-bytes ns cs ss)) 0 = ap length e in omega arith
+
+pub no-tunes-written : (write-refusal [] [] [] 2 ≡ 0) × (book-bytes [] [] [] ≡ 0 ∷ 0 ∷ [])
+unfolding write-refusal any-beyond rising any-zero lengths-good book-length all-cards book-bytes contents-bytes entries-bytes cards-bytes strikes two-bytes
+no-tunes-written = (refl, refl)

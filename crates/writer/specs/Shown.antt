@@ -17,9 +17,10 @@ use Rattle.strike.specs.declared.Strike.{Strike}
 use Rattle.strike.specs.Strikes.{in-range, strike-message, no-strike, strike-back, message-good, range-bell}
 use Rattle.strike.specs.Turns.{strikes, length-strikes, strikes-range}
 use Rattle.book.specs.Layout.{longest-book, tunes, contents-end, tune-number, offset, cards, two-bytes, entry-bytes, tune-numbers, card-counts, part-of, body-good, card}
-use Rattle.book.specs.Open.{size-bad, bodies-good, numbers-bad, bodies-bad, open-refusal}
+use Rattle.book.specs.Open.{size-bad, bodies-good, numbers-bad, bodies-bad, contents-refusal, open-refusal}
 use Rattle.book.specs.Pull.{pull-refusal, pulled}
 use Rattle.book.specs.Reading.{Card-value, cards-in, reading}
+use Rattle.book.specs.Accepted.{some-tested}
 use Rattle.book.specs.Pulled.{pulls-each, pulled-good}
 use Rattle.book.specs.ReadBack.{word-read}
 use Rattle.writer.specs.Writing.{all-cards, cards-bytes, entries-bytes, contents-bytes, book-bytes, book-length, write-refusal}
@@ -129,10 +130,10 @@ module _ (ns cs ss : List ℕ) (r : ℕ) (w : Writable ns cs ss r) where
       rw (c, le-leb 1 (getD cs e 0) s, eq-eqb (offset bs e) (start e) o, z) (bodies-pass k (suc e) (omega arith))
 
   opens : open-refusal bs ≡ 0
-  unfolding open-refusal numbers-bad bodies-bad all-cards
+  unfolding contents-refusal numbers-bad bodies-bad all-cards
   opens =
       let z : start 0 ≡ contents-end (length ns) = omega arith in
-      rw (size-good, numbers-back, w .rise, tunes-is, rw z at (bodies-pass (length ns) 0 (omega arith)))
+      rw (some-tested bs (omega (arith, book-is)), size-good, numbers-back, w .rise, tunes-is, rw z at (bodies-pass (length ns) 0 (omega arith)))
 
   -- PULL gives back the cards of the tune's strikes
   part-is : (e : ℕ) → e < length ns → part-of bs e ≡ cards-bytes (tune-strikes cs ss e)
