@@ -1,5 +1,7 @@
 // Tune books: a contents of tunes, then their bodies of cards (SPECIFICATION 5). Opening a book, finding a tune in it, reading its
 // cards, and what is said of all cards of a tune.
+#![tactic(auto)]
+
 mod bodies;
 mod contents;
 mod entries;

@@ -1,5 +1,7 @@
 // The C interface (include/lucetcoral.h): numbers and lists only, thin over the library. Each function returns 0 when done, or the refusal's
 // number; a refusal changes nothing that is lent.
+#![tactic(auto)]
+
 ghost use Rattle.std.specs.Prelude.{◌≡◌, map, length};
 ghost use Rattle.algebra.specs.Search.{or_zero};
 ghost use Rattle.refusal.specs.Replies.{reply, unless, Gives};

@@ -2,6 +2,8 @@
 // operation, then k, masks, the number of a tune or a card, a place or a width if it takes them, then its lists, each as its length and its values.
 // What comes of it is the status, 0 or the refusal, then the numbers given back, then the lists that were lent to be filled.
 // Assumes what `io` and `libc` assume of reading and writing; of the input, at most 131,072 bytes are read.
+#![tactic(auto)]
+
 mod books;
 mod code;
 mod levels;

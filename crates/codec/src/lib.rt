@@ -1,5 +1,7 @@
 // The code (SPECIFICATION 8.1 and 8.3): encoding a message, the test values of a card, its spectrum, and the tests that all operations on cards
 // begin with. Decoding stands in a crate above.
+#![tactic(auto)]
+
 mod encoding;
 mod packed;
 mod slots;

@@ -1,4 +1,6 @@
 // Decoding of cards with dead lines (document 02, P4): rows and columns that the reader names count for nothing, and what is left is decoded.
+#![tactic(auto)]
+
 mod blank;
 mod decoding;
 mod masks;

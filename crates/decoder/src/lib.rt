@@ -1,5 +1,7 @@
 // Decoding (document 01: Mend): the message near a card, computed from the card's spectrum. A card without damage is recognised first, by
 // its spectrum or, for k = 1, its first symbol; else the error's coefficients are computed, by the equations that those of an error within the radius satisfy.
+#![tactic(auto)]
+
 mod decoding;
 mod one;
 mod single;

@@ -1,5 +1,7 @@
 // Each operation, called and nothing else, with what is demanded of it as its contract (specs/Demands.antt). The prover ties the demand to the
 // operation's own contract: weaken that one, and this crate is no longer proved.
+#![tactic(auto)]
+
 ghost use Rattle.std.specs.Prelude.{List, ℕ, length};
 ghost use Rattle.refusal.specs.Replies.{outcome, reply};
 ghost use Rattle.rank.specs.Weight.{weight_reply};

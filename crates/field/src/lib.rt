@@ -1,4 +1,6 @@
 // The field of 729 elements in code (SPECIFICATION 1). A function takes any u16: a number stands for its remainder by 729.
+#![tactic(auto)]
+
 mod cubes;
 mod products;
 mod small;

@@ -1,4 +1,6 @@
 // Lists of numbers that a caller lends: tested against a bound, taken into an array, and filled from one.
+#![tactic(auto)]
+
 ghost use Rattle.std.specs.Prelude.{◌≡◌, ◌≤◌, length, take};
 ghost use Rattle.algebra.specs.Tests.{any_above};
 

@@ -1,6 +1,8 @@
 // Presses a tune book from a text of tunes (SPECIFICATION 10.2): the text is in the file that the argument names, or on standard input. The book
 // goes to standard output, or a line to standard error that says why there is none. What is handed over for either is proved to be that.
 // Assumes what `os`, `io` and `libc` assume of reading and writing.
+#![tactic(auto)]
+
 ghost use Rattle.std.specs.Prelude.{◌≡◌, ◌<◌, length};
 ghost use Rattle.tune_text.specs.Reading.{longest_text};
 ghost use Rattle.streams.specs.Inputs.{Within};

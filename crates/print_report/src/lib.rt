@@ -1,6 +1,8 @@
 // What the programs do that print a report (SPECIFICATION 10.1 and 10.4): they read a book, from the file that the argument names or from
 // standard input, and print its report. What is handed over to be printed is proved to be the report.
 // Assumes what `os`, `io` and `libc` assume of reading and writing.
+#![tactic(auto)]
+
 ghost use Rattle.std.specs.Prelude.{◌≡◌, ◌≤◌, length};
 ghost use Rattle.report.specs.Reports.{report, longest};
 

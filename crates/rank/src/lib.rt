@@ -1,4 +1,6 @@
 // The rank of a card (SPECIFICATION 3): six symbols as a square of digits, reduced to its rank modulo 3 by row elimination.
+#![tactic(auto)]
+
 mod elimination;
 mod row;
 mod square;

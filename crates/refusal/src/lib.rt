@@ -1,4 +1,6 @@
 // Why an operation refuses, one variant for each refusal with its number, and the answers that may be refusals.
+#![tactic(auto)]
+
 ghost use Rattle.std.specs.Prelude.{◌≡◌};
 ghost use Rattle.refusal.specs.Replies.{number, outcome};
 

@@ -1,5 +1,7 @@
 // Reports of a tune book: of each tune a text, in contents order, or one line where the book is refused (SPECIFICATION 9.1 and 9.3).
 // The book is opened once.
+#![tactic(auto)]
+
 ghost use Rattle.std.specs.Prelude.{◌≡◌, ◌+◌, ◌≤◌, length};
 ghost use Rattle.refusal.specs.Replies.{reply, reply_with, unless};
 ghost use Rattle.book.specs.Layout.{tunes};

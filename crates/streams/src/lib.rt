@@ -1,5 +1,7 @@
 // What every program here does with the world outside: it reads its input whole, prints a text, and says in a line on standard error what failed.
 // Assumes what `os`, `io` and `libc` assume of the operating system: no contract can say which bytes are read or written.
+#![tactic(auto)]
+
 mod input;
 mod output;
 

@@ -1,5 +1,7 @@
 // A strike: what a card's message means, in both directions, and strikes as lists of numbers (SPECIFICATION 6). The only place where the
 // layout of a message stands.
+#![tactic(auto)]
+
 ghost use Rattle.std.specs.Prelude.{◌≡◌, true, take};
 ghost use Rattle.coding.specs.Code.{is_message};
 ghost use Rattle.strike.specs.Strikes.{in_range, no_bell, no_strike, strike_of, strike_message};

@@ -1,4 +1,6 @@
 // Texts that programs print, written into a list that the caller lends: words, decimal numbers, and the line of a refused book.
+#![tactic(auto)]
+
 mod writing;
 
 pub use writing::{

@@ -1,4 +1,6 @@
 // Tunes read from a text: its words and lines, its first mistake, and the lists that a book is pressed from.
+#![tactic(auto)]
+
 mod lines;
 mod mistake_lines;
 mod mistakes;

@@ -1,4 +1,6 @@
 // What a wear report says of a tune: where wear gathers most in it, in one line (SPECIFICATION 9.3), written into a list that the caller lends.
+#![tactic(auto)]
+
 ghost use Rattle.std.specs.Prelude.{◌+◌, ◌≤◌, length};
 ghost use Rattle.book.specs.Accepted.{AcceptedEntry};
 ghost use Rattle.text.specs.Writing.{Wrote};
