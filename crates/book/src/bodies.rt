@@ -10,7 +10,7 @@ use crate::reading::{Reading, body_good, read_card};
 use refusal::{Answer, Refusal};
 
 // The answer of Worn.
-#[derive(Drop)]
+#[derive(Clone, Copy)]
 pub enum Worn {
     Card(u32),
     Nothing,

@@ -9,14 +9,14 @@ use crate::fields::{cards_of, number_of, offset_of};
 use refusal::{Answer, Refusal};
 
 // A tune of the contents: its number, and how many cards it has.
-#[derive(Drop)]
+#[derive(Clone, Copy)]
 pub struct Tune {
     pub number: u32,
     pub cards: u32,
 }
 
 // What stands at a place of the contents.
-#[derive(Drop)]
+#[derive(Clone, Copy)]
 pub enum Entry {
     Tune(Tune),
     Refused(Refusal),

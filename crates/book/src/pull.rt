@@ -13,7 +13,7 @@ use crate::fields::number_of;
 use refusal::{Answer, Outcome, Refusal};
 
 // Where the search for a tune number ends: at an entry of the contents, or at its end.
-#[derive(Drop)]
+#[derive(Clone, Copy)]
 enum Place {
     At(usize),
     Nowhere,

@@ -9,7 +9,7 @@ use refusal::Refusal;
 use strike::Strike;
 
 // The answer of a reading: a strike with its damage, the weight of the difference between the card and its word; or a refusal.
-#[derive(Drop)]
+#[derive(Clone, Copy)]
 pub enum Reading {
     Strike(Strike, Weight),
     Refused(Refusal),

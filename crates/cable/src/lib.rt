@@ -11,7 +11,7 @@ pub use receiving::receive;
 use refusal::Refusal;
 
 // The answer of an operation that gives a signed number.
-#[derive(Drop)]
+#[derive(Clone, Copy)]
 pub enum SignedAnswer {
     Value(i16),
     Refused(Refusal),

@@ -8,7 +8,7 @@ ghost use Rattle.candidate.specs.Finding.{found_message, Consistent};
 use rank::{Weight, no_weight};
 
 // The message near a card, in the first 2k places, with its word and the weight of the difference to the card; or none.
-#[derive(Drop)]
+#[derive(Clone, Copy)]
 pub struct Found {
     pub found: bool,
     pub message: [u16; 10],

@@ -3,14 +3,14 @@ ghost use Rattle.std.specs.Prelude.{◌≡◌, ◌<◌, ◌≤◌, length, take}
 ghost use Rattle.io.specs.Counts.{IsPrefixLen};
 
 // A number, and where it ends in the text.
-#[derive(Drop)]
+#[derive(Clone, Copy)]
 pub struct Parsed {
     pub value: u32,
     pub at: usize,
 }
 
 // How many values were put into a list, and where it ends in the text.
-#[derive(Drop)]
+#[derive(Clone, Copy)]
 pub struct Filled {
     pub count: usize,
     pub at: usize,

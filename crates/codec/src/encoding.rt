@@ -2,9 +2,9 @@
 // in the digits of the message.
 ghost use Rattle.std.specs.Prelude.{◌≡◌, true, ◌+◌, ◌*◌, ◌-◌, ◌≤◌, take};
 ghost use Rattle.coding.specs.Code.{word, is_message};
-ghost use Rattle.transform.specs.Packed.{«AreRows», «OfRows», «add_small_rows»};
+ghost use Rattle.transform.specs.Packed.{AreRows, OfRows, add_small_rows};
 ghost use Rattle.transform.specs.Counts.{counts};
-ghost use Rattle.transform.specs.Transforms.{«low_at», «high_at», «message_numbers», «word_map», «SmallNumbers»};
+ghost use Rattle.transform.specs.Transforms.{low_at, high_at, message_numbers, word_map, SmallNumbers};
 ghost use Rattle.codec.specs.Operations.{Encoded};
 
 use crate::packed::{add_small_rows, symbols_of};

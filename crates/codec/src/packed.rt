@@ -2,7 +2,7 @@
 // remainders of the counts by 3 are taken once, at the end. Rows are given as constants, so that products with them need no table.
 ghost use Rattle.std.specs.Prelude.{◌≡◌, true, ◌+◌, ◌*◌, ◌%◌, ◌≤◌, ◌<◌, get_or};
 ghost use Rattle.algebra.specs.Field.{digits};
-ghost use Rattle.transform.specs.Packed.{bounded, «IsRow», «AreRows», «OfRows», «add_row», «add_three_rows», «add_rows», «small_digits», «add_small_rows», «symbols_of»};
+ghost use Rattle.transform.specs.Packed.{bounded, IsRow, AreRows, OfRows, add_row, add_three_rows, add_rows, small_digits, add_small_rows, symbols_of};
 ghost use Rattle.transform.specs.Remainders.{remainders, halves};
 
 // The six digits of a number.

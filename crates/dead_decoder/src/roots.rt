@@ -9,7 +9,7 @@ use crate::steps::cubed;
 use crate::tries::Fraction;
 
 // square * x^2 + linear * x + constant
-#[derive(Drop)]
+#[derive(Clone, Copy)]
 pub struct Quadratic {
     pub square: u16,
     pub linear: u16,

@@ -13,7 +13,7 @@ use candidate::{Found, read_message};
 use decoder::{determinant, residual, solved_pair};
 
 // A card, the k of its code, and its dead lines.
-#[derive(Drop)]
+#[derive(Clone, Copy)]
 pub struct DeadCard {
     pub k: usize,
     pub card: [u16; 6],

@@ -23,7 +23,7 @@ const COLUMN_MULTIPLIERS: [u16; 64] = [
     321, 438, 170, 587, 279,
 ];
 
-#[derive(Drop)]
+#[derive(Clone, Copy)]
 pub enum Line {
     Row,
     Column,

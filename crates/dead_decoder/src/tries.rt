@@ -23,7 +23,7 @@ use candidate::{Found, nothing};
 use decoder::{Affine, determinant, ninth_product, numerator, value_at};
 
 // constant + numerator / denominator, both of which depend on a try's symbol.
-#[derive(Drop)]
+#[derive(Clone, Copy)]
 pub struct Fraction {
     pub constant: u16,
     pub numerator: Affine,

@@ -22,7 +22,7 @@ const MINUS_ONE: u16 = 2;
 const INVERSE_GAMMA_9: u16 = 684;
 
 // A number that depends on the message's first symbol: constant + factor * symbol.
-#[derive(Drop)]
+#[derive(Clone, Copy)]
 pub struct Affine {
     pub constant: u16,
     pub factor: u16,
@@ -30,7 +30,7 @@ pub struct Affine {
 
 // What all proposals share: three of the card's coefficients; the determinant, the numerator of the annihilator's middle coefficient and that of
 // the last symbol's ninth power; and 1 / the determinant before.
-#[derive(Drop)]
+#[derive(Clone, Copy)]
 pub struct Shared {
     pub zeroth: u16,
     pub first: u16,

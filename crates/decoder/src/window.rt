@@ -8,7 +8,7 @@ ghost use Rattle.coding.specs.Window.{determinant, numerator};
 ghost use Rattle.decoder.specs.Windows.{Annihilates};
 
 // 1 / the determinant before it, the numerator, and the determinant.
-#[derive(Drop)]
+#[derive(Clone, Copy)]
 pub struct Annihilator {
     pub inverse: u16,
     pub numerator: u16,

@@ -3,7 +3,7 @@
 ghost use Rattle.std.specs.Prelude.{◌≡◌, ◌≤◌};
 ghost use Rattle.algebra.specs.Field.{add, minus};
 ghost use Rattle.algebra.specs.Linear.{combination};
-ghost use Rattle.field.specs.DigitSums.{«place_sum»};
+ghost use Rattle.field.specs.DigitSums.{place_sum};
 
 pub fn sum(a: u16, b: u16) -> u16
     ensures { result ≡ add a b }

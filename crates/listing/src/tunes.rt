@@ -12,7 +12,7 @@ use crate::lines::{write_card, write_ticks, write_tune_line};
 use refusal::Answer;
 
 // Where the card lines of a body end, and the sum of the delays or the first refusal.
-#[derive(Drop)]
+#[derive(Clone, Copy)]
 struct CardLines {
     end: usize,
     ticks: Answer,

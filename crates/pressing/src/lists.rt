@@ -10,7 +10,7 @@ use refusal::{Answer, Outcome};
 pub const LONGEST_LINE: usize = 64;
 
 // How many bytes the book has, and how many the line.
-#[derive(Drop)]
+#[derive(Clone, Copy)]
 pub struct Lengths {
     pub book: usize,
     pub line: usize,

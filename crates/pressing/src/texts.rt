@@ -9,7 +9,7 @@ use refusal::Refusal;
 use tune_text::Tunes;
 
 // The answer: the lengths of book and line, of which one is 0; or refusal 2, if a list that was lent is too short.
-#[derive(Drop)]
+#[derive(Clone, Copy)]
 pub enum Pressed {
     Texts(Lengths),
     Refused(Refusal),

@@ -6,7 +6,7 @@ mod row;
 mod square;
 
 ghost use Rattle.std.specs.Prelude.{◌≡◌, [], ◌∷◌, ◌+◌};
-ghost use Rattle.refusal.specs.Replies.{«reply_with»};
+ghost use Rattle.refusal.specs.Replies.{reply_with};
 ghost use Rattle.rank.specs.Weight.{weight_of, no_weight, weight_reply, weight_refusal};
 
 use elimination::pivots;
@@ -14,13 +14,13 @@ use refusal::Refusal;
 use square::digit_square;
 
 // What weighing finds.
-#[derive(Drop)]
+#[derive(Clone, Copy)]
 pub struct Weight {
     pub rank: u32,
 }
 
 // The answer of an operation that weighs.
-#[derive(Drop)]
+#[derive(Clone, Copy)]
 pub enum Weighed {
     Weight(Weight),
     Refused(Refusal),

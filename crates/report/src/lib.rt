@@ -13,7 +13,7 @@ ghost use Rattle.report.specs.Reports.{tune_report, report, longest};
 use refusal::{Answer, Refusal};
 
 // What a report says of each tune: its cards, or where wear gathers.
-#[derive(Drop)]
+#[derive(Clone, Copy)]
 pub enum Kind {
     Listing,
     Wear,

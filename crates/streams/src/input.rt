@@ -5,7 +5,7 @@ ghost use Rattle.book.specs.Layout.{longest_book};
 ghost use Rattle.streams.specs.Inputs.{Within, Reaches};
 
 // What came of reading: how many bytes were put at the start of a buffer, or a failure, which was said.
-#[derive(Drop)]
+#[derive(Clone, Copy)]
 pub enum Input {
     Bytes(usize),
     Failed,

@@ -15,7 +15,7 @@ const FORCE_MOST: u32 = 8;
 const DELAY_MOST: u32 = 728;
 
 // A bell struck with a force, and the ticks until the next strike. Bell 0 is a rest.
-#[derive(Drop)]
+#[derive(Clone, Copy)]
 pub struct Strike {
     pub bell: u32,
     pub force: u32,

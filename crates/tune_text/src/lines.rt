@@ -6,7 +6,7 @@ ghost use Rattle.tune_text.specs.Saying.{tune_said, strike_said, line_of};
 use crate::words::{after_word, first_word, is_number, is_tune, value};
 
 // Why a line is a mistake.
-#[derive(Drop)]
+#[derive(Clone, Copy)]
 pub enum Fault {
     // The word `tune`, and then not one number.
     TuneNumber,
@@ -17,7 +17,7 @@ pub enum Fault {
 }
 
 // The numbers of a strike.
-#[derive(Drop)]
+#[derive(Clone, Copy)]
 pub struct Numbers {
     pub bell: u16,
     pub force: u16,
@@ -25,7 +25,7 @@ pub struct Numbers {
 }
 
 // What a line says.
-#[derive(Drop)]
+#[derive(Clone, Copy)]
 pub enum Line {
     Nothing,
     Tune(u16),

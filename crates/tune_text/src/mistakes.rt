@@ -7,14 +7,14 @@ use crate::lines::{Fault, Line};
 use crate::scanning::{begins_tune, line_here};
 
 // The number of a line, counted from 1, and what is wrong with it.
-#[derive(Drop)]
+#[derive(Clone, Copy)]
 pub struct Mistake {
     pub line: u32,
     pub fault: Fault,
 }
 
 // Whether a text has a mistake.
-#[derive(Drop)]
+#[derive(Clone, Copy)]
 pub enum Check {
     Fine,
     Wrong(Mistake),

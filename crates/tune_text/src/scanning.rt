@@ -8,7 +8,7 @@ ghost use Rattle.tune_text.specs.Lines.{Found, begins_tune, card_in};
 use crate::lines::{Line, line_of};
 
 // What a line says, and where the next begins.
-#[derive(Drop)]
+#[derive(Clone, Copy)]
 pub struct Here {
     pub said: Line,
     pub next: usize,

@@ -14,14 +14,14 @@ use refusal::Refusal;
 pub const LONGEST: usize = 131072;
 
 // How many tunes there are, and how many numbers their strikes have.
-#[derive(Drop)]
+#[derive(Clone, Copy)]
 pub struct Sizes {
     pub tunes: usize,
     pub strikes: usize,
 }
 
 // The answer: that the text is too long, that a list is too short, the first mistake, or what was read.
-#[derive(Drop)]
+#[derive(Clone, Copy)]
 pub enum Tunes {
     TooLong,
     Refused(Refusal),

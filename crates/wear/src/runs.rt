@@ -8,14 +8,14 @@ use crate::sliding::{first_run, reading_wear};
 use refusal::Refusal;
 
 // Cards in a row: the sum of their wear, and the number of the first.
-#[derive(Drop)]
+#[derive(Clone, Copy)]
 pub struct Run {
     pub sum: u32,
     pub first: u32,
 }
 
 // The answer: a run, or a refusal.
-#[derive(Drop)]
+#[derive(Clone, Copy)]
 pub enum Wear {
     Run(Run),
     Refused(Refusal),

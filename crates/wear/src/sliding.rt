@@ -7,7 +7,7 @@ ghost use Rattle.wear.specs.Sliding.{Fits, Keeps};
 use book::Reading;
 
 // It has at most 64 cards: the wear of card n stands in place n % 64.
-#[derive(Drop)]
+#[derive(Clone, Copy)]
 pub(crate) struct SlidingRun {
     pub wears: [u32; 64],
     pub sum: u32,

@@ -3,12 +3,8 @@ use mathlib.Core.Path.{refl}
 use Rattle.algebra.specs.Linear.{computing}
 use Rattle.algebra.specs.Products.{orbit}
 use Rattle.algebra.specs.Powers.{powers}
-use Rattle.field.proofs.products.powers.Statement.{statement}
-use Rattle.field.proofs.products.powers.Tie as tie
+use Rattle.field.proofs.products.powers.Goals as goal
 
-returns : tie.Need-returns
+pub returns : goal.returns
 unfolding computing orbit powers
 returns c = refl
-
-pub powers-spec : {M : Type 1} → statement M
-powers-spec = tie.close (tie.spec returns)

@@ -3,12 +3,8 @@ use mathlib.Core.Path.{sym, ◌∙◌}
 use borrow.Author.Rules.{rules}
 use Rattle.algebra.specs.Linear.{computing, expand}
 use Rattle.algebra.specs.Products.{cube_linear}
-use Rattle.field.proofs.cubes.cube.Statement.{statement}
-use Rattle.field.proofs.cubes.cube.Tie as tie
+use Rattle.field.proofs.cubes.cube.Goals as goal
 
-returns : tie.Need-returns
+pub returns : goal.returns
 unfolding computing
-returns c = c.combination.ensures ∙ sym (expand cube_linear c.before.args.a)
-
-pub cube-spec : {M : Type 1} → statement M
-cube-spec = tie.close (tie.spec (search rules) returns)
+returns c = c.combination.ensures ∙ sym (expand cube_linear c.args.a)

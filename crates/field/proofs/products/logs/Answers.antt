@@ -4,12 +4,8 @@ use Rattle.algebra.specs.Lists.{table}
 use Rattle.algebra.specs.Linear.{computing}
 use Rattle.algebra.specs.Products.{orbit}
 use Rattle.algebra.specs.Powers.{powers, place, log}
-use Rattle.field.proofs.products.logs.Statement.{statement}
-use Rattle.field.proofs.products.logs.Tie as tie
+use Rattle.field.proofs.products.logs.Goals as goal
 
-returns : tie.Need-returns
+pub returns : goal.returns
 unfolding computing table orbit powers place log
 returns c = refl
-
-pub logs-spec : {M : Type 1} → statement M
-logs-spec = tie.close (tie.spec returns)
