@@ -4,14 +4,10 @@ use Rattle.rank.specs.Weight.{weight_self}
 use Rattle.coding.specs.Clean.{word_decode}
 use Rattle.candidate.specs.Finding.{found_message}
 use borrow.Author.Rules.{rules}
-use Rattle.candidate.proofs.shape.undamaged.Statement.{statement}
-use Rattle.candidate.proofs.shape.undamaged.Tie as tie
+use Rattle.candidate.proofs.shape.undamaged.Goals as goal
 
-returns : tie.Need-returns
+pub returns : goal.returns
 unfolding found_message
 returns c =
-    let (p, q, card, m, w) = c.before.requires in
+    let (p, q, card, m, w) = c.requires in
     (sym (word_decode _ p q _ card _ m w), record { word_is = λ f. sym w; weight_is = λ f. c.no_weight.ensures ∙ weight_self _ })
-
-pub undamaged-spec : {M : Type 1} → statement M
-undamaged-spec = tie.close (tie.spec (search rules) returns)

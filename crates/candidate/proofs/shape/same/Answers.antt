@@ -6,10 +6,9 @@ use borrow.Author.Tests.{eqb-true}
 use Rattle.algebra.specs.Lists.{cons}
 use Rattle.algebra.specs.Tests.{both}
 use Rattle.rank.specs.Arrays.{six}
-use Rattle.candidate.proofs.shape.same.Statement.{statement}
-use Rattle.candidate.proofs.shape.same.Tie as tie
+use Rattle.candidate.proofs.shape.same.Goals as goal
 
-returns : tie.Need-returns
+pub returns : goal.returns
 returns c =
     λ t.
     let (t₅, e₅) = both _ _ t in
@@ -20,21 +19,3 @@ returns c =
     sym (six _ (omega arith))
     ∙ cons (eqb-true _ _ e₀) (cons (eqb-true _ _ e₁) (cons (eqb-true _ _ e₂) (cons (eqb-true _ _ e₃) (cons (eqb-true _ _ e₄) (cons (eqb-true _ _ e₅) refl)))))
     ∙ six _ (omega arith)
-
-pub same_spec : {M : Type 1} → statement M
-same_spec =
-    tie.close
-    (tie.spec
-    (search rules)
-    (search rules)
-    (search rules)
-    (search rules)
-    (search rules)
-    (search rules)
-    (search rules)
-    (search rules)
-    (search rules)
-    (search rules)
-    (search rules)
-    (search rules)
-    returns)
