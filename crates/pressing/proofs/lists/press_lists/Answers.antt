@@ -15,22 +15,17 @@ pub slice_bounds-write_book-end-2 : goal.slice_bounds-write_book-end-2
 slice_bounds-write_book-end-2 c =
     sym (part_length c.args.counts.now c.args.book.now c.room_for-size.result c.room_for-size.ensures c.requires.longest_book_in_bounds)
 
--- what the writer is called with, and where the number of its refusal is known
-abbrev start : tie.After-number → tie.Start
-start c = c.before.before.before.before.before.before.before.before.before.before.before.before.before.before.before
-
+-- the number of the writer's refusal
 refusal_is : (c : After-number)
-    → c.number.result ≡ lists_refusal (start c).args.numbers.now (start c).args.counts.now (start c).args.strikes.now
+    → c.number.result ≡ lists_refusal c.args.numbers.now c.args.counts.now c.args.strikes.now
 refusal_is c =
-    let s = start c in
     c.number.ensures
-    ∙ lists_number s.args.counts.now s.args.book.now c.room_for-size.result c.room_for-size.ensures s.pre.0 _ _ _ _
+    ∙ lists_number c.args.counts.now c.args.book.now c.room_for-size.result c.room_for-size.ensures c.requires.longest_book_in_bounds _ _ _ _
     c.write_book.ensures _ c.in-Refused.is
 
 pub write_book_refused-requires : goal.write_book_refused-requires
 write_book_refused-requires c =
-    let s = start (goal.at.write_book_refused-requires c).After-number in
-    rw (refusal_is (goal.at.write_book_refused-requires c).After-number) (omega (arith, refused_within s.args.numbers.now s.args.counts.now s.args.strikes.now, s.pre.1))
+    rw (refusal_is (goal.at.write_book_refused-requires c).After-number) (omega (arith, refused_within c.args.numbers.now c.args.counts.now c.args.strikes.now, c.requires.longest_line_in_bounds))
 
 pub returns-in-Done : goal.returns-in-Done
 returns-in-Done c =
