@@ -8,13 +8,8 @@ use Rattle.refusal.specs.Replies.{reply_with}
 use Rattle.levels.specs.Levels.{symbol_of}
 use Rattle.cable.specs.Operations.{symbol_refusal}
 use Rattle.demands.specs.CableDemands.{symbol_says}
-use Rattle.demands.proofs.symbol.Statement.{statement}
-use Rattle.demands.proofs.symbol.Tie as tie
+use Rattle.demands.proofs.symbol.Goals as goal
 
-returns : tie.Need-returns
+pub returns : goal.returns
 returns c =
-    let s = c.before in
-    symbol_says _ c.symbol.result (c.symbol.ensures ∙ ap (λ (n : ℤ). reply_with 0 (symbol_refusal n) (symbol_of n)) (to_z-of_z w16 s.args.number s.ranges.number))
-
-pub symbol-spec : {M : Type 1} → statement M
-symbol-spec = tie.close (tie.spec (λ c κs. search rules) returns)
+    symbol_says _ c.symbol.result (c.symbol.ensures ∙ ap (λ (n : ℤ). reply_with 0 (symbol_refusal n) (symbol_of n)) (to_z-of_z w16 c.args.number c.ranges.number))
