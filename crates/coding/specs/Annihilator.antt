@@ -11,8 +11,9 @@ use Rattle.algebra.specs.Sums.{Zero, zero_plus, scale_none, scale_whole, add_who
 use Rattle.algebra.specs.Combinations.{combine, combine_below, Span, span_combine, span_scale, span_zero, span_like, span_head, span_trans, Independent}
 use Rattle.algebra.specs.Linear.{Linear, at_zero, at_rest, at_combine, composed, combination, images, expand}
 use Rattle.algebra.specs.Products.{ring, cube_linear, cube_times, risen_six}
-use Rattle.algebra.specs.Inverses.{times_not_zero}
-use Rattle.algebra.specs.Polynomials.{ev, ev_linear, lower, lower_linear, lower_self, lower_zeros}
+use Rattle.algebra.proofs.Inverses.{times_not_zero}
+use Rattle.algebra.specs.Polynomials.{ev, lower}
+use Rattle.algebra.proofs.Polynomials.{ev_linear, lower_linear, lower_self, lower_zeros}
 use Rattle.rank.specs.Definitions.{at, is_card, rank}
 use Rattle.rank.specs.Echelon.{rank_echelon}
 use Rattle.coding.specs.Code.{radius, Near}

@@ -10,7 +10,8 @@ use Rattle.coding.specs.Code.{word, is_message}
 use Rattle.algebra.specs.Sums.{Zero, minus_none}
 use Rattle.algebra.specs.Combinations.{outside}
 use Rattle.algebra.specs.Linear.{Linear, composed, summed, scale_linear, combination, combination_linear, basis, images, expand}
-use Rattle.algebra.specs.Polynomials.{ev, ev_linear}
+use Rattle.algebra.specs.Polynomials.{ev}
+use Rattle.algebra.proofs.Polynomials.{ev_linear}
 use Rattle.coding.specs.Coefficients.{higher, coefficients, length_higher, last_higher, word_images, word_card}
 use Rattle.coding.specs.Cards.{card_images}
 use Rattle.coding.specs.WordSpectrum.{message_of, message_of_word}

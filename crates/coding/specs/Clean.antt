@@ -9,7 +9,8 @@ use Rattle.std.proofs.Math.ListN.{get_or-eq_default}
 use Rattle.algebra.specs.Field.{small}
 use Rattle.algebra.specs.Linear.{at_zero}
 use Rattle.algebra.specs.Tests.{both}
-use Rattle.algebra.specs.SmallField.{small_linear, low, high, high_small, low_gamma}
+use Rattle.algebra.specs.SmallField.{low, high}
+use Rattle.algebra.proofs.SmallField.{small_linear, high_small, low_gamma}
 use Rattle.rank.specs.Definitions.{at, is_card}
 use Rattle.rank.specs.Distance.{apart_self, apart_zero}
 use Rattle.coding.specs.Code.{word, is_message, radius}

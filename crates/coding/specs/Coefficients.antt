@@ -12,8 +12,10 @@ use Rattle.algebra.specs.Tests.{passed, passes, one_to_five}
 use Rattle.algebra.specs.Digits.{add_comm, add_assoc, add_below}
 use Rattle.algebra.specs.Linear.{basis, images, computing}
 use Rattle.algebra.specs.Products.{right}
-use Rattle.algebra.specs.SmallField.{small_linear, pair, low, high, low_below, high_below, low_small, high_gamma, low_pair, high_pair}
-use Rattle.algebra.specs.Polynomials.{ev, ev_linear, last}
+use Rattle.algebra.specs.SmallField.{pair, low, high}
+use Rattle.algebra.proofs.SmallField.{small_linear, low_below, high_below, low_small, high_gamma, low_pair, high_pair}
+use Rattle.algebra.specs.Polynomials.{ev, last}
+use Rattle.algebra.proofs.Polynomials.{ev_linear}
 
 -- small (at m 0), the inner ones, and the top one
 unfoldable pub inners : (left i : ℕ) → (m : List ℕ) → (top : ℕ) → List ℕ

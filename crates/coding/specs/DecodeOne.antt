@@ -8,7 +8,8 @@ use Rattle.std.proofs.Math.Nat.{mod-eq_of_lt}
 use Rattle.algebra.specs.Field.{minus, times, small, gamma}
 use Rattle.algebra.specs.Sums.{Zero, minus_rest}
 use Rattle.algebra.specs.Products.{times_whole}
-use Rattle.algebra.specs.SmallField.{small_linear, low, high}
+use Rattle.algebra.specs.SmallField.{low, high}
+use Rattle.algebra.proofs.SmallField.{small_linear}
 use Rattle.rank.specs.Definitions.{at, is_card}
 use Rattle.coding.specs.Code.{Near}
 use Rattle.coding.specs.Coefficients.{inners, higher, coefficients, read, read_higher, read_coefficients}

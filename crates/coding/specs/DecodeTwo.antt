@@ -14,8 +14,10 @@ use Rattle.algebra.specs.Tests.{passed}
 use Rattle.algebra.specs.Sums.{Zero, add_whole}
 use Rattle.algebra.specs.Linear.{computing, agree, composed, none_linear}
 use Rattle.algebra.specs.Products.{ring, right, cube_linear}
-use Rattle.algebra.specs.Inverses.{inverse, divide}
-use Rattle.algebra.specs.SmallField.{small_linear, small_fixed, low, high, low_small, high_gamma, high_linear}
+use Rattle.algebra.specs.Inverses.{inverse}
+use Rattle.algebra.proofs.Inverses.{divide}
+use Rattle.algebra.specs.SmallField.{low, high}
+use Rattle.algebra.proofs.SmallField.{small_linear, small_fixed, low_small, high_gamma, high_linear}
 use Rattle.rank.specs.Definitions.{at, is_card}
 use Rattle.coding.specs.Code.{inner, is_message, Near}
 use Rattle.coding.specs.Coefficients.{inners, higher, coefficients, read, read_higher, read_coefficients}

@@ -9,9 +9,11 @@ use Rattle.algebra.specs.Field.{add, minus, times, small, gamma}
 use Rattle.algebra.specs.Digits.{digit, add_zero}
 use Rattle.algebra.specs.Linear.{at_zero, at_rest, combination, images}
 use Rattle.algebra.specs.Products.{ring, products, left, times_whole}
-use Rattle.algebra.specs.Inverses.{inverse, divide}
-use Rattle.algebra.specs.SmallField.{small_linear, small_rest, low, high, low_small, high_linear, high_small, high_times}
-use Rattle.algebra.specs.Squares.{gamma_high}
+use Rattle.algebra.specs.Inverses.{inverse}
+use Rattle.algebra.proofs.Inverses.{divide}
+use Rattle.algebra.specs.SmallField.{low, high}
+use Rattle.algebra.proofs.SmallField.{small_linear, small_rest, low_small, high_linear, high_small, high_times}
+use Rattle.algebra.proofs.Squares.{gamma_high}
 use Rattle.algebra.specs.Polynomials.{ev, last}
 use Rattle.coding.specs.Cards.{card_images, blend, blend_card, combine_blend}
 use Rattle.coding.specs.Interpolation.{State, Left, Knows}

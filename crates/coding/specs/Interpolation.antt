@@ -13,10 +13,13 @@ use Rattle.algebra.specs.Sums.{Zero, sums, minus_add, zero_plus, add_whole}
 use Rattle.algebra.specs.Combinations.{Span, span_zero, span_add, span_scale, span_like, span_trans}
 use Rattle.algebra.specs.Linear.{at_zero, at_rest, at_scale, at_minus, at_combine, none_linear, combination, combination_linear, basis, in_basis, expand}
 use Rattle.algebra.specs.Products.{ring, times_one}
-use Rattle.algebra.specs.Inverses.{inverse, divide}
-use Rattle.algebra.specs.Squares.{Square, square_one, square_step}
+use Rattle.algebra.specs.Inverses.{inverse}
+use Rattle.algebra.proofs.Inverses.{divide}
+use Rattle.algebra.specs.Squares.{Square}
+use Rattle.algebra.proofs.Squares.{square_one, square_step}
 use Rattle.coding.specs.Cards.{blend, blend_length, combine_blend}
-use Rattle.algebra.specs.Polynomials.{ev, ev_linear, lower, lower_linear, lower_self, lower_zeros, rem, quo, division, last, quo_length, quo_last}
+use Rattle.algebra.specs.Polynomials.{ev, lower, rem, quo, last}
+use Rattle.algebra.proofs.Polynomials.{ev_linear, lower_linear, lower_self, lower_zeros, division, quo_length, quo_last}
 
 -- THE STATE: two cards, and the lowest coefficients of their polynomials
 pub record State : Type 0 where

@@ -12,7 +12,8 @@ use Rattle.algebra.specs.Lists.{cons}
 use Rattle.algebra.specs.Digits.{add_zero}
 use Rattle.algebra.specs.Linear.{at_zero}
 use Rattle.algebra.specs.Products.{ring, times_zero}
-use Rattle.algebra.specs.SmallField.{small_linear, low, low_linear, small_times}
+use Rattle.algebra.specs.SmallField.{low}
+use Rattle.algebra.proofs.SmallField.{small_linear, low_linear, small_times}
 use Rattle.rank.specs.Definitions.{at}
 use Rattle.coding.specs.Code.{inner, inner_sum, value, word_from, word}
 

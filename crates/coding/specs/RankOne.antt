@@ -14,8 +14,10 @@ use Rattle.algebra.specs.Sums.{Zero, add_whole, minus_none}
 use Rattle.algebra.specs.Combinations.{Span, span_zero, Independent}
 use Rattle.algebra.specs.Linear.{at_rest, images}
 use Rattle.algebra.specs.Products.{ring, products, cube_linear, none_cube, cube_times, times_comm, times_zero, zero_times, times_whole}
-use Rattle.algebra.specs.Inverses.{inverse, divide, no_divisors, times_not_zero}
-use Rattle.algebra.specs.Polynomials.{ev, lower, lower_linear, lower_self}
+use Rattle.algebra.specs.Inverses.{inverse}
+use Rattle.algebra.proofs.Inverses.{divide, no_divisors, times_not_zero}
+use Rattle.algebra.specs.Polynomials.{ev, lower}
+use Rattle.algebra.proofs.Polynomials.{lower_linear, lower_self}
 use Rattle.rank.specs.Definitions.{is_card, rank}
 use Rattle.rank.specs.Echelon.{rank_echelon}
 use Rattle.coding.specs.Code.{Near}

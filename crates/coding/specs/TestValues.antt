@@ -12,8 +12,9 @@ use Rattle.algebra.specs.Tests.{both}
 use Rattle.algebra.specs.Sums.{Zero}
 use Rattle.algebra.specs.Linear.{computing}
 use Rattle.algebra.specs.Products.{times_zero, times_whole}
-use Rattle.algebra.specs.Inverses.{no_divisors, risen_not_zero}
-use Rattle.algebra.specs.SmallField.{small_linear, low, high}
+use Rattle.algebra.proofs.Inverses.{no_divisors, risen_not_zero}
+use Rattle.algebra.specs.SmallField.{low, high}
+use Rattle.algebra.proofs.SmallField.{small_linear}
 use Rattle.coding.specs.Spectrum.{spectrum, spectrum_whole}
 use Rattle.coding.specs.WordSpectrum.{Shape}
 use Rattle.coding.specs.Mu.{mu, P_mu}

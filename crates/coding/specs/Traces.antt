@@ -10,7 +10,8 @@ use Rattle.algebra.specs.Digits.{add_below}
 use Rattle.algebra.specs.Sums.{Zero, sums}
 use Rattle.algebra.specs.Linear.{Linear, composed, summed, rest_linear, computing, images, agree}
 use Rattle.algebra.specs.Products.{right, risen_add}
-use Rattle.algebra.specs.SmallField.{small_linear, low, high, low_linear, high_linear}
+use Rattle.algebra.specs.SmallField.{low, high}
+use Rattle.algebra.proofs.SmallField.{small_linear, low_linear, high_linear}
 
 pub trace_linear : Linear trace
 unfolding trace

@@ -8,7 +8,8 @@ use Rattle.algebra.specs.Field.{add, minus, times, cube, risen}
 use Rattle.algebra.specs.Sums.{Zero, add_whole}
 use Rattle.algebra.specs.Linear.{at_minus}
 use Rattle.algebra.specs.Products.{ring, cube_linear, none_cube, cube_times, times_comm, times_zero, zero_times, rest_times}
-use Rattle.algebra.specs.Inverses.{inverse, divide, times_not_zero, risen_not_zero}
+use Rattle.algebra.specs.Inverses.{inverse}
+use Rattle.algebra.proofs.Inverses.{divide, times_not_zero, risen_not_zero}
 use Rattle.coding.specs.Annihilator.{Annihilated}
 
 -- a product that is 0, a cube that is 0, and cubes of differences

@@ -13,7 +13,8 @@ use Rattle.coding.specs.Code.{word, is_message}
 use Rattle.algebra.specs.Lists.{table, table_same, table_at, length_table, at_table}
 use Rattle.algebra.specs.Tests.{one_to_five}
 use Rattle.algebra.specs.Linear.{at_zero, images}
-use Rattle.algebra.specs.SmallField.{small_linear, low, high, high_small, low_gamma, pair_low_high, only_low, only_high}
+use Rattle.algebra.specs.SmallField.{low, high}
+use Rattle.algebra.proofs.SmallField.{small_linear, high_small, low_gamma, pair_low_high, only_low, only_high}
 use Rattle.algebra.specs.Polynomials.{ev}
 use Rattle.coding.specs.Coefficients.{inners, higher, coefficients, length_coefficients, coefficients_below, word_images, read, read_coefficients, is_message_read, coefficients_read}
 use Rattle.coding.specs.Spectrum.{spectrum, spectrum_whole, spectrum_images, images_spectrum}

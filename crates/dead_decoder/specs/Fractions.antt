@@ -6,8 +6,9 @@ use Rattle.std.proofs.Math.Path.{ap}
 use Rattle.algebra.specs.Field.{add, minus, times, cube, risen, small}
 use Rattle.algebra.specs.Digits.{add_zero}
 use Rattle.algebra.specs.Products.{ring, cube_times, times_one, zero_times}
-use Rattle.algebra.specs.Inverses.{inverse, inverse_only}
-use Rattle.algebra.specs.SmallField.{small_fixed}
+use Rattle.algebra.specs.Inverses.{inverse}
+use Rattle.algebra.proofs.Inverses.{inverse_only}
+use Rattle.algebra.proofs.SmallField.{small_fixed}
 use Rattle.coding.specs.Window.{determinant, numerator, solved, cube_minus, cubed_before}
 use Rattle.coding.specs.RankOne.{next_error, chain}
 use Rattle.coding.specs.Residual.{residual}

@@ -13,7 +13,8 @@ use Rattle.rank.specs.Definitions.{at}
 use Rattle.rank.specs.Arrays.{six}
 use Rattle.candidate.specs.Places.{entry_is}
 use Rattle.dead_lines.specs.Steps.{Step, Row, Column, raised, multiplier, line_step, line_stepped, Alike, step_same, back, unstepped, Upto, back_same}
-use Rattle.dead_lines.specs.Multipliers.{row_multipliers, column_multipliers, steps, step_if, back_if, six_steps, six_backs, all_stepped, all_unstepped}
+use Rattle.dead_lines.specs.Multipliers.{row_multipliers, column_multipliers, steps, step_if, back_if, six_steps, six_backs}
+use Rattle.dead_lines.proofs.Multipliers.{all_stepped, all_unstepped}
 use Rattle.dead_decoder.specs.declared.steps.Line.{Line}
 use Rattle.dead_decoder.specs.declared.steps.Line.TheVariants as lines
 

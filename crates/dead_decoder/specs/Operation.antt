@@ -35,7 +35,8 @@ use Rattle.dead_lines.specs.Blanked.{blanked, struck_rank}
 use Rattle.dead_lines.specs.DecodeDead.{decode_dead, decoded_dead, blanked_none, no_dead_line}
 use Rattle.dead_lines.specs.Steps.{Step, line_stepped, stepped_same}
 use Rattle.dead_lines.specs.Multipliers.{steps}
-use Rattle.dead_lines.specs.Solving.{solve, solve_is_decode}
+use Rattle.dead_lines.specs.Solving.{solve}
+use Rattle.dead_lines.proofs.Solving.{solve_is_decode}
 use Rattle.dead_decoder.specs.declared.solving.DeadCard.{DeadCard}
 use Rattle.dead_decoder.specs.Finds.{Decodable, Finds}
 

@@ -13,8 +13,10 @@ use Rattle.algebra.specs.Sums.{Zero, add_rest}
 use Rattle.algebra.specs.Linear.{computing, at_zero, at_rest}
 use Rattle.algebra.specs.Products.{ring, products, orbit, risen_linear, risen_add, risen_times, times_rest, rest_times, zero_times, times_zero, times_whole}
 use Rattle.algebra.specs.Powers.{powers, place, log}
-use Rattle.algebra.specs.Inverses.{inverse, divide}
-use Rattle.algebra.specs.SmallField.{small_linear, small_fixed, low, low_below, low_small, high, only_low}
+use Rattle.algebra.specs.Inverses.{inverse}
+use Rattle.algebra.proofs.Inverses.{divide}
+use Rattle.algebra.specs.SmallField.{low, high}
+use Rattle.algebra.proofs.SmallField.{small_linear, small_fixed, low_below, low_small, only_low}
 use Rattle.field.specs.Tables.{Tables}
 use Rattle.coding.specs.Options.{or_else, first_of}
 use Rattle.candidate.specs.Finding.{first_at}

@@ -11,7 +11,6 @@ pub mod DecodeDead
 pub mod Steps
 pub mod Multipliers
 -- An error, all steps made: its rank, and what the message hides of it
-pub mod ErrorRank
 pub mod Hidden
 -- What is run, and that it is the definition
 pub mod Solving

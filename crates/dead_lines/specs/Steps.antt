@@ -11,8 +11,10 @@ use Rattle.algebra.specs.Lists.{All, table}
 use Rattle.algebra.specs.Sums.{Zero, add_whole, minus_zero, minus_self, rest_add}
 use Rattle.algebra.specs.Linear.{Linear, composed, rest_linear, at_rest, at_zero, at_minus}
 use Rattle.algebra.specs.Products.{ring, cube_linear, cube_times, risen_six, one_times, times_zero, times_whole, rest_times}
-use Rattle.algebra.specs.Inverses.{inverse, divide, risen_not_zero}
-use Rattle.algebra.specs.Polynomials.{ev, ev_linear, lower, lower_linear}
+use Rattle.algebra.specs.Inverses.{inverse}
+use Rattle.algebra.proofs.Inverses.{divide, risen_not_zero}
+use Rattle.algebra.specs.Polynomials.{ev, lower}
+use Rattle.algebra.proofs.Polynomials.{ev_linear, lower_linear}
 use Rattle.coding.specs.Errors.{taken_back}
 use Rattle.coding.specs.Annihilator.{cube_add, cube_six}
 use Rattle.coding.specs.RankOne.{lowered_ev}

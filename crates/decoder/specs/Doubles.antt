@@ -12,8 +12,10 @@ use Rattle.algebra.specs.Lists.{table}
 use Rattle.algebra.specs.Tests.{passes}
 use Rattle.algebra.specs.Linear.{computing, agree, summed, none_linear, scale_linear}
 use Rattle.algebra.specs.Products.{ring, right}
-use Rattle.algebra.specs.Inverses.{inverse, inverse_cube}
-use Rattle.algebra.specs.SmallField.{low, high, low_below, high_below}
+use Rattle.algebra.specs.Inverses.{inverse}
+use Rattle.algebra.proofs.Inverses.{inverse_cube}
+use Rattle.algebra.specs.SmallField.{low, high}
+use Rattle.algebra.proofs.SmallField.{low_below, high_below}
 use Rattle.rank.specs.Definitions.{at, is_card}
 use Rattle.coding.specs.Code.{is_message}
 use Rattle.coding.specs.Options.{first_of}

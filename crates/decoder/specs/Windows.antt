@@ -4,7 +4,8 @@ use Rattle.std.specs.Prelude.{◌≡◌, ◌≢◌, true, false, List, ℕ, eqb}
 use Rattle.std.proofs.Common.{sym, ◌∙◌, eq-eqb, ne_eqb}
 use Rattle.algebra.specs.Field.{add, times, cube}
 use Rattle.algebra.specs.Lists.{table}
-use Rattle.algebra.specs.Inverses.{inverse, inverse_cube}
+use Rattle.algebra.specs.Inverses.{inverse}
+use Rattle.algebra.proofs.Inverses.{inverse_cube}
 use Rattle.rank.specs.Definitions.{at}
 use Rattle.coding.specs.Spectrum.{spectrum}
 use Rattle.coding.specs.Window.{determinant, numerator, solved}

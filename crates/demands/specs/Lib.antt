@@ -5,10 +5,6 @@ pub mod Demands
 pub mod Settled
 -- What is said holds: of the code, Press, Weigh, Test and Mend, also with dead lines; of strikes, Open, Pull, Read, Length, Worn, Write and
 -- Size; of wear; of levels on the cable
-pub mod CardDemands
-pub mod BookDemands
-pub mod WearDemands
-pub mod CableDemands
 -- What holds of written books, stated and proved
 pub mod WrittenBooks
 -- The cases that are to be theorems

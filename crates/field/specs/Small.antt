@@ -5,7 +5,8 @@ use Rattle.std.proofs.Common.{◌∙◌, mod-lt, lit<}
 use Rattle.algebra.specs.Field.{small}
 use Rattle.algebra.specs.Tests.{every, tested}
 use Rattle.algebra.specs.Linear.{computing, at_rest}
-use Rattle.algebra.specs.SmallField.{low, high, low_linear, high_linear, small_rest}
+use Rattle.algebra.specs.SmallField.{low, high}
+use Rattle.algebra.proofs.SmallField.{low_linear, high_linear, small_rest}
 
 -- THE SYMBOL OF A SMALL NUMBER
 abbrev small_by : ℕ → ℕ

@@ -10,8 +10,10 @@ use Rattle.algebra.specs.Lists.{table, at_table}
 use Rattle.algebra.specs.Sums.{Zero}
 use Rattle.algebra.specs.Linear.{at_rest}
 use Rattle.algebra.specs.Products.{cube_linear, times_rest, rest_times, zero_times, times_zero}
-use Rattle.algebra.specs.Powers.{powers, place, log, log_below, power_at, power_log, power_plus, power_round, power_728, times_logs}
-use Rattle.algebra.specs.Inverses.{inverse, inverse_power}
+use Rattle.algebra.specs.Powers.{powers, place, log}
+use Rattle.algebra.proofs.Powers.{log_below, power_at, power_log, power_plus, power_round, power_728, times_logs}
+use Rattle.algebra.specs.Inverses.{inverse}
+use Rattle.algebra.proofs.Inverses.{inverse_power}
 
 -- what is lent are the tables of the logarithms and of the powers
 pub record Tables (l p : List ℕ) : Type 0 where

@@ -15,7 +15,8 @@ use Rattle.book.specs.Reading.{CardValue, read_reply, cards_in, reading}
 use Rattle.book.specs.Bodies.{add_delay, total_delay}
 use Rattle.book.specs.Delays.{Adding, adding_start, adding_next, adding_end}
 use Rattle.text.specs.Text.{ascii, word_line}
-use Rattle.text.specs.Writing.{Wrote, Joining, joining_start, joining_room, joining_next, joining_end}
+use Rattle.text.specs.Writing.{Wrote, Joining}
+use Rattle.text.proofs.WritingLaws.{joining_start, joining_room, joining_next, joining_end}
 use Rattle.listing.specs.Listing.{strike_line, refused_line, card_line, card_lines, ticks_line}
 
 -- THE TWO KINDS OF A CARD LINE

@@ -5,7 +5,7 @@ use Rattle.std.proofs.Common.{◌∙◌}
 use Rattle.refusal.specs.Replies.{reply_value, unless}
 use Rattle.book.specs.Layout.{longest_book}
 use Rattle.text.specs.Text.{written}
-use Rattle.text.specs.Writing.{written_front}
+use Rattle.text.proofs.WritingLaws.{written_front}
 use Rattle.tune_text.specs.MistakeLines.{longest_line}
 use Rattle.pressing.specs.declared.lists.Lengths.{Lengths}
 use Rattle.pressing.specs.declared.texts.Pressed.{Pressed}

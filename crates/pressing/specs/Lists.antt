@@ -16,7 +16,8 @@ use Rattle.book.specs.Open.{rising}
 use Rattle.strike.specs.Turns.{strikes_bad}
 use Rattle.text.specs.Text.{book_refused, written}
 use Rattle.text.specs.Decimal.{two_digits, spaced_length, book_refused_length}
-use Rattle.text.specs.Writing.{Wrote, wrote_none}
+use Rattle.text.specs.Writing.{Wrote}
+use Rattle.text.proofs.WritingLaws.{wrote_none}
 use Rattle.writer.specs.Writing.{book_bytes, book_length, size_refusal, any_zero, lengths_good, write_refusal, Written}
 use Rattle.writer.specs.Filled.{whole_fits}
 use Rattle.tune_text.specs.MistakeLines.{longest_line}

@@ -9,7 +9,7 @@ use Rattle.text.specs.Decimal.{book_refused_length}
 use Rattle.tune_text.specs.declared.mistakes.Check.{Check}
 use Rattle.tune_text.specs.declared.mistakes.Check.TheVariants as check
 use Rattle.tune_text.specs.Reading.{lines_said, mistake_of, longest_text}
-use Rattle.tune_text.specs.Sizes.{mistake_within}
+use Rattle.tune_text.proofs.SizeLaws.{mistake_within}
 use Rattle.tune_text.specs.MistakeLines.{longest_line, too_long_line, mistake_line_within, too_long_within}
 use Rattle.writer.specs.Writing.{book_bytes, book_length}
 use Rattle.writer.specs.Layouts.{length_book}

@@ -14,7 +14,8 @@ use Rattle.refusal.specs.Replies.{number, refused_reply, value_reply, unless_ref
 use Rattle.book.specs.Layout.{longest_book}
 use Rattle.text.specs.Text.{book_refused}
 use Rattle.text.specs.Decimal.{book_refused_length}
-use Rattle.text.specs.Writing.{Wrote, wrote_none}
+use Rattle.text.specs.Writing.{Wrote}
+use Rattle.text.proofs.WritingLaws.{wrote_none}
 use Rattle.writer.specs.Writing.{book_bytes}
 use Rattle.tune_text.specs.declared.lines.Line.{Line}
 use Rattle.tune_text.specs.declared.mistakes.Mistake.{Mistake}
@@ -25,7 +26,8 @@ use Rattle.tune_text.specs.declared.tunes.Tunes.{Tunes}
 use Rattle.tune_text.specs.declared.tunes.Tunes.TheVariants as tunes
 use Rattle.tune_text.specs.Reading.{lines_said, mistake_of, longest_text, too_short, checked, tunes_of, when_read}
 use Rattle.tune_text.specs.MistakeLines.{longest_line, mistake_line, too_long_line, mistake_line_within}
-use Rattle.tune_text.specs.Answers.{wrong-line, ReadSo, read-so, counts-size, read-front}
+use Rattle.tune_text.specs.Answers.{ReadSo}
+use Rattle.tune_text.proofs.AnswerLaws.{wrong-line, read-so, counts-size, read-front}
 use Rattle.pressing.specs.declared.lists.Lengths.{Lengths}
 use Rattle.pressing.specs.declared.texts.Pressed.TheVariants.{Texts, Refused}
 use Rattle.pressing.specs.Pressing.{text_numbers, text_counts, text_strikes, press_refusal, refusal_line, mistake_or, said, pressed}

@@ -15,7 +15,7 @@ use Rattle.book.specs.Layout.{longest_book, tunes}
 use Rattle.book.specs.Open.{size_bad, contents_refusal, open_refusal}
 use Rattle.book.specs.Accepted.{Accepted, empty_accepted, empty_tunes, some_tested}
 use Rattle.text.specs.Text.{joined, book_refused, written, room_refusal}
-use Rattle.text.specs.Writing.{written_front}
+use Rattle.text.proofs.WritingLaws.{written_front}
 use Rattle.listing.specs.Listing.{tune_text}
 use Rattle.wear_lines.specs.WearLines.{wear_line}
 use Rattle.report.specs.declared.Kind.{Kind}

@@ -13,7 +13,8 @@ use Rattle.algebra.specs.Digits.{add_zero}
 use Rattle.algebra.specs.Sums.{add_swap}
 use Rattle.algebra.specs.Linear.{Linear, at_zero, composed, summed, none_linear, combination, combination_linear, computing, agree}
 use Rattle.algebra.specs.Products.{left, right, times_assoc, risen_linear}
-use Rattle.algebra.specs.SmallField.{low, low_linear, low_below, fixed_small, small_back}
+use Rattle.algebra.specs.SmallField.{low}
+use Rattle.algebra.proofs.SmallField.{low_linear, low_below, fixed_small, small_back}
 use Rattle.algebra.specs.Totals.{total, total_same, total_none}
 use Rattle.rank.specs.Definitions.{at}
 use Rattle.coding.specs.Code.{trace, P, pairs_from, test_values}

@@ -14,7 +14,7 @@ use Rattle.algebra.specs.Linear.{Linear, composed, computing}
 use Rattle.algebra.specs.Digits.{add_assoc, add_comm, add_zero}
 use Rattle.algebra.specs.Sums.{zero_plus, add_whole, add_rest}
 use Rattle.algebra.specs.Products.{left, right, times_zero, zero_times, times_whole, add_times}
-use Rattle.algebra.specs.SmallField.{small_linear}
+use Rattle.algebra.proofs.SmallField.{small_linear}
 use Rattle.algebra.specs.Totals.{total}
 use Rattle.rank.specs.Definitions.{at}
 use Rattle.coding.specs.Code.{is_message, inner, inner_sum, value, word, word_from}

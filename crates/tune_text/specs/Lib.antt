@@ -10,9 +10,7 @@ pub mod Example
 pub mod Pieces
 pub mod Flags
 pub mod Numbers
-pub mod LineWords
 -- A text line by line
 pub mod Lines
-pub mod Sizes
 -- The answer, and what a caller learns from it
 pub mod Answers

@@ -12,7 +12,8 @@ use Rattle.strike.specs.declared.Strike.{Strike}
 use Rattle.strike.specs.Strikes.{in_range}
 use Rattle.strike.specs.Turns.{strikes_bad, strikes, strikes_at, strikes_end, strikes_range}
 use Rattle.book.specs.Layout.{two_bytes, contents_end, entry_bytes, symbols_bytes}
-use Rattle.text.specs.Writing.{Wrote, wrote_byte, wrote_then, wrote_whole, Partway, partway_start, partway_room, partway_next, partway_end}
+use Rattle.text.specs.Writing.{Wrote, Partway}
+use Rattle.text.proofs.WritingLaws.{wrote_byte, wrote_then, wrote_whole, partway_start, partway_room, partway_next, partway_end}
 use Rattle.writer.specs.Writing.{all_cards, card_bytes, cards_bytes, entries_bytes, book_bytes, book_length, write_refusal, Written}
 use Rattle.writer.specs.Layouts.{length_entry, length_card, length_book, entries_at, entries_end}
 use Rattle.writer.specs.Writable.{Writable, writable}

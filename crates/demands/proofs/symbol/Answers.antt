@@ -7,7 +7,7 @@ use borrow.Author.Rules.{rules}
 use Rattle.refusal.specs.Replies.{reply_with}
 use Rattle.levels.specs.Levels.{symbol_of}
 use Rattle.cable.specs.Operations.{symbol_refusal}
-use Rattle.demands.specs.CableDemands.{symbol_says}
+use Rattle.demands.proofs.CableDemands.{symbol_says}
 use Rattle.demands.proofs.symbol.Goals as goal
 
 pub returns : goal.returns

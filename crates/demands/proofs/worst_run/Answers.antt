@@ -1,6 +1,6 @@
 -- `demands::worst_run` meets its contract, by that of `wear::worst_run`.
 use borrow.Author.Rules.{rules}
-use Rattle.demands.specs.WearDemands.{wear_says}
+use Rattle.demands.proofs.WearDemands.{wear_says}
 use Rattle.demands.proofs.worst_run.Goals as goal
 
 pub returns : goal.returns

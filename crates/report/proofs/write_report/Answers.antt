@@ -4,7 +4,7 @@ use native.Mathlib.Omega.{arith}
 use borrow.Author.Rules.{rules}
 use lib.ListN.{length}
 use Rattle.refusal.specs.Replies.{reply_with, unless}
-use Rattle.text.specs.Writing.{room_short, room_enough}
+use Rattle.text.proofs.WritingLaws.{room_short, room_enough}
 use Rattle.report.specs.Reports.{report, longest}
 use Rattle.report.specs.Sizes.{report_within}
 use Rattle.report.proofs.write_report.Goals as goal

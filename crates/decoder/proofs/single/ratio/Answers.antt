@@ -1,7 +1,7 @@
 -- `decoder::single::ratio` meets its contract: a product with the cube of an inverse.
 use mathlib.Core.Path.{ap, ◌∙◌}
 use Rattle.algebra.specs.Field.{times, cube}
-use Rattle.algebra.specs.Inverses.{inverse_cube}
+use Rattle.algebra.proofs.Inverses.{inverse_cube}
 use borrow.Author.Rules.{rules}
 use Rattle.decoder.proofs.single.ratio.Goals as goal
 

@@ -2,7 +2,7 @@
 use mathlib.Core.Path.{sym}
 use native.Mathlib.Omega.{arith}
 use borrow.Author.Rules.{rules}
-use Rattle.algebra.specs.Inverses.{inverse_zero}
+use Rattle.algebra.proofs.Inverses.{inverse_zero}
 use Rattle.field.specs.Tables.{log_small, inverse_one, inverse_back}
 use Rattle.field.proofs.products.inverse_with.Goals as goal
 

@@ -4,7 +4,8 @@ use native.Mathlib.Omega.{arith}
 use borrow.Author.Rules.{rules}
 use Rattle.algebra.specs.Field.{times}
 use Rattle.algebra.specs.Products.{zero_times}
-use Rattle.algebra.specs.Inverses.{inverse, inverse_zero}
+use Rattle.algebra.specs.Inverses.{inverse}
+use Rattle.algebra.proofs.Inverses.{inverse_zero}
 use Rattle.field.specs.Tables.{zero_right, logs_small, quotient_read}
 use Rattle.field.proofs.products.quotient_with.Goals as goal
 

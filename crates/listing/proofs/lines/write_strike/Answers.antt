@@ -3,7 +3,7 @@ use native.Mathlib.Omega.{arith}
 use lib.ListN.{length-append}
 use borrow.Author.Rules.{rules}
 use Rattle.listing.specs.Listing.{strike_line}
-use Rattle.text.specs.Writing.{wrote_then}
+use Rattle.text.proofs.WritingLaws.{wrote_then}
 use Rattle.listing.proofs.lines.write_strike.Goals as goal
 
 pub write_decimal-number_end-requires : goal.write_decimal-number_end-requires

@@ -3,7 +3,7 @@ use native.Mathlib.Omega.{arith}
 use lib.ListN.{length-append}
 use borrow.Author.Rules.{rules}
 use Rattle.listing.specs.Listing.{tune_line}
-use Rattle.text.specs.Writing.{wrote_then}
+use Rattle.text.proofs.WritingLaws.{wrote_then}
 use Rattle.listing.proofs.lines.write_tune_line.Goals as goal
 
 pub write_word-word_end-requires : goal.write_word-word_end-requires

@@ -2,7 +2,7 @@
 use native.Mathlib.Omega.{arith}
 use borrow.Author.Rules.{rules}
 use Rattle.listing.specs.Listing.{body_text}
-use Rattle.text.specs.Writing.{wrote_then, room_then}
+use Rattle.text.proofs.WritingLaws.{wrote_then, room_then}
 use Rattle.listing.specs.Sizes.{body_text_length}
 use Rattle.listing.proofs.tunes.write_body.Goals as goal
 

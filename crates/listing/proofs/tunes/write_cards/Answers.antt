@@ -6,7 +6,7 @@ use Rattle.refusal.specs.Replies.{reply}
 use Rattle.book.specs.Reading.{cards_in}
 use Rattle.book.specs.Bounds.{good_length}
 use Rattle.book.specs.Delays.{adding_fits}
-use Rattle.text.specs.Writing.{wrote_length}
+use Rattle.text.proofs.WritingLaws.{wrote_length}
 use Rattle.listing.specs.Lines.{CardsSo, cards_start, cards_room, cards_next, cards_end}
 use Rattle.listing.proofs.tunes.write_cards.Goals as goal
 

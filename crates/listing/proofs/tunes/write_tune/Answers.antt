@@ -4,7 +4,8 @@ use borrow.Author.Rules.{rules}
 use Rattle.book.specs.Layout.{tune_number, cards}
 use Rattle.book.specs.Entries.{entry_parts}
 use Rattle.book.specs.Accepted.{part_good}
-use Rattle.text.specs.Writing.{Wrote, wrote_then, room_then}
+use Rattle.text.specs.Writing.{Wrote}
+use Rattle.text.proofs.WritingLaws.{wrote_then, room_then}
 use Rattle.listing.specs.Listing.{tune_line, tune_text}
 use Rattle.listing.specs.Sizes.{tune_text_length}
 use Rattle.listing.proofs.tunes.write_tune.Goals as goal

@@ -3,7 +3,7 @@ use mathlib.Core.Path.{sym}
 use native.Mathlib.Omega.{arith}
 use borrow.Author.Rules.{rules}
 use lib.Seq.{length-take-le}
-use Rattle.tune_text.specs.Answers.{tunes-room, strikes-room}
+use Rattle.tune_text.proofs.AnswerLaws.{tunes-room, strikes-room}
 use Rattle.pressing.specs.Texts.{ListsRead, sizes_so, said_long, said_wrong, said_read, never_refused, wrong_room}
 use Rattle.pressing.specs.Texts.{mistake_some, line_only, lists_both}
 use Rattle.pressing.proofs.texts.press_text.Goals as goal

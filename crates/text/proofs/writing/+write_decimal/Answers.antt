@@ -1,6 +1,6 @@
 -- `text::writing::write_decimal` meets its contract: the digits of the tenth part, then the last.
 use Rattle.std.proofs.Common.{arith}
-use Rattle.text.specs.Writing.{wrote_length, wrote_then}
+use Rattle.text.proofs.WritingLaws.{wrote_length, wrote_then}
 use Rattle.text.specs.Decimal.{decimal_one, decimal_more, one_length, more_length}
 use Rattle.text.proofs.writing.+write_decimal.Goals as goal
 

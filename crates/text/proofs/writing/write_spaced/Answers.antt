@@ -2,7 +2,7 @@
 use native.Mathlib.Omega.{arith}
 use borrow.Author.Rules.{rules}
 use Rattle.text.specs.Text.{spaced}
-use Rattle.text.specs.Writing.{wrote_then}
+use Rattle.text.proofs.WritingLaws.{wrote_then}
 use Rattle.text.proofs.writing.write_spaced.Goals as goal
 
 pub write_byte-next-requires : goal.write_byte-next-requires

@@ -2,7 +2,8 @@
 use Prim.Native.Nat.{◌-◌}
 use native.Mathlib.Omega.{arith}
 use lib.ListN.{length}
-use Rattle.text.specs.Writing.{wrote_length, Copying, copying_start, copying_next, copying_end}
+use Rattle.text.specs.Writing.{Copying}
+use Rattle.text.proofs.WritingLaws.{wrote_length, copying_start, copying_next, copying_end}
 use Rattle.text.proofs.writing.write_word.Goals as goal
 
 pub loop-i-init : goal.loop-i-init

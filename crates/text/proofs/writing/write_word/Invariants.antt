@@ -2,7 +2,8 @@
 use Prim.Native.Nat.{◌-◌}
 use native.Mathlib.Omega.{arith}
 use lib.ListN.{length}
-use Rattle.text.specs.Writing.{wrote_length, Copying, copying_start, copying_next, copying_end}
+use Rattle.text.specs.Writing.{Copying}
+use Rattle.text.proofs.WritingLaws.{wrote_length, copying_start, copying_next, copying_end}
 use Rattle.text.proofs.writing.write_word.Given as goal
 
 abbrev pub invariant-loop-i : goal.invariant-loop-i

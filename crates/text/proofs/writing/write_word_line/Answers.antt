@@ -3,7 +3,7 @@ use native.Mathlib.Omega.{arith}
 use lib.ListN.{length-append}
 use borrow.Author.Rules.{rules}
 use Rattle.text.specs.Text.{word_line}
-use Rattle.text.specs.Writing.{wrote_then}
+use Rattle.text.proofs.WritingLaws.{wrote_then}
 use Rattle.text.proofs.writing.write_word_line.Goals as goal
 
 pub write_word-word_end-requires : goal.write_word-word_end-requires

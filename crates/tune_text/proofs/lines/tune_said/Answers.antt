@@ -4,7 +4,7 @@ use mathlib.Core.Bool.{true}
 use Rattle.tune_text.specs.Flags.{was_false, was_true}
 use Rattle.tune_text.specs.Words.{is_number}
 use Rattle.tune_text.specs.Pieces.{first_word, after_word}
-use Rattle.tune_text.specs.LineWords.{tune_not, tune_more, tune_one}
+use Rattle.tune_text.proofs.WordLaws.{tune_not, tune_more, tune_one}
 use borrow.Author.Rules.{rules}
 use mathlib.Core.Path.{ap}
 use mathlib.Core.Bool.{not}

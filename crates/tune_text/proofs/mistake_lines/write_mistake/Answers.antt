@@ -1,7 +1,7 @@
 -- `tune_text::mistake_lines::write_mistake` meets its contract: the parts of the line one after another.
 use native.Mathlib.Omega.{arith}
 use lib.ListN.{length-append}
-use Rattle.text.specs.Writing.{wrote_then}
+use Rattle.text.proofs.WritingLaws.{wrote_then}
 use Rattle.tune_text.specs.MistakeLines.{mistake_line}
 use borrow.Author.Rules.{rules}
 use Rattle.tune_text.proofs.mistake_lines.write_mistake.Goals as goal

@@ -6,7 +6,8 @@ use native.Mathlib.Omega.{arith}
 use lib.ListN.{length, drop}
 use Rattle.tune_text.specs.Flags.{was_false, was_true}
 use Rattle.tune_text.specs.Reading.{lines_said, mistake_from, mistake_of}
-use Rattle.tune_text.specs.Lines.{said_end, begins_tune, mistake_next, mistake_here}
+use Rattle.tune_text.specs.Lines.{begins_tune}
+use Rattle.tune_text.proofs.LineLaws.{said_end, mistake_next, mistake_here}
 use borrow.Author.Rules.{rules}
 use mathlib.Core.Bool.{not}
 use Rattle.tune_text.proofs.mistakes.find_mistake.Given as goal

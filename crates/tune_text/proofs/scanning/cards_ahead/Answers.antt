@@ -4,8 +4,9 @@ use Prim.Native.Nat.{◌+◌, ◌-◌}
 use native.Mathlib.Omega.{arith}
 use lib.ListN.{length, drop}
 use Rattle.tune_text.specs.Reading.{lines_said, cards_ahead}
-use Rattle.tune_text.specs.Lines.{said_end, card_in, ahead_tune, ahead_other}
-use Rattle.tune_text.specs.Sizes.{ahead_fits}
+use Rattle.tune_text.specs.Lines.{card_in}
+use Rattle.tune_text.proofs.LineLaws.{said_end, ahead_tune, ahead_other}
+use Rattle.tune_text.proofs.SizeLaws.{ahead_fits}
 use borrow.Author.Rules.{rules}
 use Rattle.tune_text.proofs.scanning.cards_ahead.Goals as goal
 use Rattle.tune_text.proofs.scanning.cards_ahead.Goals.{Else-begins_tune}

@@ -5,7 +5,8 @@ use native.Mathlib.Omega.{arith}
 use lib.ListN.{length, drop}
 use borrow.Author.Tests.{eq-eqb, ne_eqb}
 use Rattle.tune_text.specs.Words.{new_line}
-use Rattle.tune_text.specs.Pieces.{ends_at, ends_here, ends_next, ends_none}
+use Rattle.tune_text.specs.Pieces.{ends_at}
+use Rattle.tune_text.proofs.PieceLaws.{ends_here, ends_next, ends_none}
 use borrow.Author.Rules.{rules}
 use Rattle.tune_text.proofs.scanning.line_end.Given as goal
 

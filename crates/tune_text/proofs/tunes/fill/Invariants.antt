@@ -3,10 +3,11 @@ use mathlib.Core.Path.{ap}
 use Prim.Native.Nat.{◌-◌}
 use native.Mathlib.Omega.{arith}
 use lib.ListN.{length, drop}
-use Rattle.text.specs.Writing.{wrote_length, Partway, partway_start, partway_room, partway_next, partway_end}
+use Rattle.text.specs.Writing.{Partway}
+use Rattle.text.proofs.WritingLaws.{wrote_length, partway_start, partway_room, partway_next, partway_end}
 use Rattle.tune_text.specs.Reading.{lines_said, gathered, number_in, strike_in, count_in, numbers_of, strikes_of, counts_of}
-use Rattle.tune_text.specs.Lines.{said_end}
-use Rattle.tune_text.specs.Sizes.{numbers_within, counts_within, strikes_within}
+use Rattle.tune_text.proofs.LineLaws.{said_end}
+use Rattle.tune_text.proofs.SizeLaws.{numbers_within, counts_within, strikes_within}
 use Rattle.tune_text.proofs.tunes.fill.Given as goal
 
 abbrev pub invariant-loop-at : goal.invariant-loop-at

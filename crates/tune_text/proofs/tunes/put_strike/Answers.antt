@@ -1,8 +1,8 @@
 -- `tune_text::tunes::put_strike` meets its contract: three numbers for a strike, and none for other lines.
 use native.Mathlib.Omega.{arith}
 use lib.ListN.{length-set}
-use Rattle.text.specs.Writing.{wrote_none}
-use Rattle.tune_text.specs.Lines.{wrote_three}
+use Rattle.text.proofs.WritingLaws.{wrote_none}
+use Rattle.tune_text.proofs.LineLaws.{wrote_three}
 use borrow.Author.Rules.{rules}
 use Rattle.tune_text.proofs.tunes.put_strike.Goals as goal
 

@@ -2,7 +2,8 @@
 use mathlib.Core.Path.{refl, sym, ◌∙◌}
 use native.Mathlib.Nat.{zero-add}
 use native.Mathlib.Omega.{arith}
-use Rattle.tune_text.specs.Answers.{Tested, numbers-short, counts-short, strikes-short, answer-long, answer-short, answer-wrong, answer-read}
+use Rattle.tune_text.specs.Answers.{Tested}
+use Rattle.tune_text.proofs.AnswerLaws.{numbers-short, counts-short, strikes-short, answer-long, answer-short, answer-wrong, answer-read}
 use borrow.Author.Rules.{rules}
 use Rattle.tune_text.proofs.tunes.read_tunes.Goals as goal
 use Rattle.tune_text.proofs.tunes.read_tunes.Goals.{Else-strikes-text}

@@ -2,7 +2,8 @@
 use mathlib.Core.Path.{◌∙◌}
 use native.Mathlib.Omega.{arith}
 use Rattle.tune_text.specs.Words.{blank}
-use Rattle.tune_text.specs.Pieces.{ends_within, part_rest, after_word}
+use Rattle.tune_text.specs.Pieces.{after_word}
+use Rattle.tune_text.proofs.PieceLaws.{ends_within, part_rest}
 use borrow.Author.Rules.{rules}
 use Rattle.tune_text.proofs.words.after_word.Goals as goal
 

@@ -2,7 +2,8 @@
 use lib.ListN.{length-take}
 use native.Mathlib.Omega.{arith}
 use Rattle.tune_text.specs.Words.{blank}
-use Rattle.tune_text.specs.Pieces.{ends_within, first_word}
+use Rattle.tune_text.specs.Pieces.{first_word}
+use Rattle.tune_text.proofs.PieceLaws.{ends_within}
 use borrow.Author.Rules.{rules}
 use Rattle.tune_text.proofs.words.first_word.Goals as goal
 

@@ -4,7 +4,8 @@ use Prim.Native.Nat.{◌-◌, ◌≤◌}
 use native.Mathlib.Omega.{arith}
 use lib.ListN.{length, drop}
 use Rattle.tune_text.specs.Flags.{was_false, was_true}
-use Rattle.tune_text.specs.Pieces.{part_rest, trimmed, trimmed_here, trimmed_next, trimmed_none}
+use Rattle.tune_text.specs.Pieces.{trimmed}
+use Rattle.tune_text.proofs.PieceLaws.{part_rest, trimmed_here, trimmed_next, trimmed_none}
 use borrow.Author.Rules.{rules}
 use mathlib.Core.Path.{ap}
 use mathlib.Core.Bool.{not}

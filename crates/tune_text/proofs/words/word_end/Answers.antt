@@ -4,7 +4,8 @@ use Prim.Native.Nat.{◌+◌, ◌-◌}
 use native.Mathlib.Omega.{arith}
 use lib.ListN.{length, drop}
 use Rattle.tune_text.specs.Words.{blank}
-use Rattle.tune_text.specs.Pieces.{ends_at, ends_here, ends_next, ends_none}
+use Rattle.tune_text.specs.Pieces.{ends_at}
+use Rattle.tune_text.proofs.PieceLaws.{ends_here, ends_next, ends_none}
 use borrow.Author.Rules.{rules}
 use Rattle.tune_text.proofs.words.word_end.Goals as goal
 

@@ -1,7 +1,7 @@
 -- `writer::bytes::write_entry` meets its contract: the three numbers one after another.
 use borrow.Author.Rules.{rules}
 use Rattle.book.specs.Layout.{two_bytes, four_bytes, entry_bytes}
-use Rattle.text.specs.Writing.{wrote_then}
+use Rattle.text.proofs.WritingLaws.{wrote_then}
 use Rattle.writer.proofs.bytes.write_entry.Goals as goal
 
 pub write_four-offset_end-requires : goal.write_four-offset_end-requires

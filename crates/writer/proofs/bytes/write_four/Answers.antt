@@ -1,7 +1,7 @@
 -- `writer::bytes::write_four` meets its contract: the high half, then the low one.
 use borrow.Author.Rules.{rules}
 use Rattle.book.specs.Layout.{two_bytes, four_bytes}
-use Rattle.text.specs.Writing.{wrote_then}
+use Rattle.text.proofs.WritingLaws.{wrote_then}
 use Rattle.writer.proofs.bytes.write_four.Goals as goal
 
 pub write_two-requires : goal.write_two-requires

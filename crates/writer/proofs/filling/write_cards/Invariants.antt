@@ -3,7 +3,7 @@ use Prim.Native.Nat.{◌-◌, ◌+◌}
 use native.Mathlib.Omega.{arith}
 use lib.ListN.{length}
 use borrow.Author.Rules.{rules}
-use Rattle.text.specs.Writing.{wrote_length}
+use Rattle.text.proofs.WritingLaws.{wrote_length}
 use Rattle.writer.specs.Filled.{CardsSoFar, cards_start, cards_room, cards_next, cards_done}
 use Rattle.writer.proofs.filling.write_cards.Given as goal
 

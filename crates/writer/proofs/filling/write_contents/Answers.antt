@@ -3,7 +3,7 @@ use native.Mathlib.Omega.{arith}
 use lib.ListN.{length}
 use borrow.Author.Rules.{rules}
 use Rattle.book.specs.Layout.{two_bytes, contents_end}
-use Rattle.text.specs.Writing.{wrote_then, room_then}
+use Rattle.text.proofs.WritingLaws.{wrote_then, room_then}
 use Rattle.writer.specs.Writing.{entries_bytes, contents_bytes, book_length}
 use Rattle.writer.proofs.filling.write_contents.Goals as goal
 

@@ -3,7 +3,7 @@ use Prim.Native.Nat.{◌-◌}
 use native.Mathlib.Omega.{arith}
 use lib.ListN.{length}
 use borrow.Author.Rules.{rules}
-use Rattle.text.specs.Writing.{wrote_length}
+use Rattle.text.proofs.WritingLaws.{wrote_length}
 use Rattle.writer.specs.Writing.{book_length}
 use Rattle.writer.specs.Filled.{EntriesSoFar, entries_start, start_within, next_within, entries_room, entries_next, entries_done}
 use Rattle.writer.proofs.filling.write_entries.Given as goal

@@ -5,7 +5,7 @@ use native.Mathlib.Omega.{arith}
 use lib.ListN.{length, length-append}
 use borrow.Author.Rules.{rules}
 use Rattle.strike.specs.Turns.{strikes}
-use Rattle.text.specs.Writing.{wrote_then, room_then}
+use Rattle.text.proofs.WritingLaws.{wrote_then, room_then}
 use Rattle.writer.specs.Writing.{contents_bytes, cards_bytes, book_bytes}
 use Rattle.writer.specs.Writable.{Writable}
 use Rattle.writer.specs.Filled.{written_refused, passed, whole_fits, written_done}

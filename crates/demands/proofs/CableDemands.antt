@@ -22,7 +22,7 @@ use Rattle.cable.specs.declared.SignedAnswer.{SignedAnswer}
 use Rattle.cable.specs.Operations.{signed_reply, signed_refusal, symbol_refusal, levels_refusal, symbols_refusal, receive_refusal}
 use Rattle.demands.specs.Demands.{CableSays, SignedSays, SymbolAs, SymbolSays, six_refusal, LevelsSays, SymbolsAs, SymbolsSays}
 use Rattle.demands.specs.Demands.{ReceiveAs, ReceiveSays, MendSays, MendsSent}
-use Rattle.demands.specs.CardDemands.{mend_says}
+use Rattle.demands.proofs.CardDemands.{mend_says}
 
 pub cable_says : CableSays
 cable_says = record {

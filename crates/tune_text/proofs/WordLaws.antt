@@ -1,6 +1,5 @@
 -- What a line says, found word by word.
--- Main: number_first; tune_not, tune_more, tune_one; strike_first, strike_second, strike_third, strike_more, strike_three; says_none, says_comment,
--- says_tune, says_other.
+-- Main: tune_more, strike_second, strike_third, strike_more, says_comment, says_tune, says_other.
 use Rattle.std.specs.Prelude.{◌≡◌, true, false, ℕ, length, get_or}
 use Rattle.std.proofs.Math.Path.{refl}
 use Rattle.std.proofs.Common.{sym, ◌∙◌, true≢false}
@@ -13,7 +12,8 @@ use Rattle.tune_text.specs.declared.lines.Fault.TheVariants.{TuneNumber, Unknown
 use Rattle.tune_text.specs.declared.lines.Line.TheVariants.{Nothing, Tune, Strike, Wrong}
 use Rattle.tune_text.specs.Words.{words, is_number, value, same}
 use Rattle.tune_text.specs.Saying.{tune_said, three_numbers, strike_said, words_say, line_of}
-use Rattle.tune_text.specs.Pieces.{first_word, after_word, words_none, words_some}
+use Rattle.tune_text.specs.Pieces.{first_word, after_word}
+use Rattle.tune_text.proofs.PieceLaws.{words_none, words_some}
 use Rattle.tune_text.specs.Numbers.{number_none}
 
 -- A LINE WHOSE FIRST WORD IS A NUMBER has that word

@@ -14,7 +14,8 @@ use Rattle.algebra.specs.Tests.{passed, below_six}
 use Rattle.algebra.specs.Sums.{sums}
 use Rattle.algebra.specs.Combinations.{combine, Span, span_zero, span_scale}
 use Rattle.algebra.specs.Linear.{Linear, composed, at_rest, at_scale, at_combine, combination, basis, images, expand}
-use Rattle.algebra.specs.Polynomials.{ev, ev_linear}
+use Rattle.algebra.specs.Polynomials.{ev}
+use Rattle.algebra.proofs.Polynomials.{ev_linear}
 use Rattle.rank.specs.Definitions.{is_card, rank, difference}
 use Rattle.rank.specs.Echelon.{rank_echelon, rank_least}
 use Rattle.coding.specs.Code.{word}
@@ -24,7 +25,8 @@ use Rattle.dead_lines.specs.Struck.{bit, live_rank}
 use Rattle.dead_lines.specs.Blanked.{kept, blanked, span_map, struck_rank}
 use Rattle.dead_lines.specs.OneNear.{dropped, kept_dropped, span_each, difference_at, left_at}
 use Rattle.dead_lines.specs.Steps.{line_stepped, after_lines, before_lines, after_linear, stepped_value}
-use Rattle.dead_lines.specs.Multipliers.{steps, row_gone, column_avoided}
+use Rattle.dead_lines.specs.Multipliers.{steps}
+use Rattle.dead_lines.proofs.Multipliers.{row_gone, column_avoided}
 
 image_at : (f : ℕ → ℕ) (i : ℕ) → i < 6 → get_or (images f) i 0 ≡ f (3 ^ i)
 image_at f = below_six _ refl refl refl refl refl refl

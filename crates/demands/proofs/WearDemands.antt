@@ -15,7 +15,7 @@ use Rattle.wear.specs.Wear.{reading_wear, card_wear, run_sum, worst_run, width_b
 use Rattle.wear.specs.Worst.{fits, worst_is}
 use Rattle.demands.specs.Demands.{Wears, RunWears, none_wear, one_wears, RunAt, WorstRun, wearing_refusal, WearAs, WearSays}
 use Rattle.demands.specs.Settled.{said_once}
-use Rattle.demands.specs.BookDemands.{read_is}
+use Rattle.demands.proofs.BookDemands.{read_is}
 
 module _ (bs : List ℕ) where
   -- A CARD wears by its number of the definition, and by no other

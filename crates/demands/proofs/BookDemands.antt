@@ -1,5 +1,6 @@
 -- What is demanded of strikes, Open, Pull, Read, Length, Worn, Write and Size, proved: each from the operation's contract.
--- Main: open_says, pull_says, find_says, body_says, empty_says, strikes_say, read_is, read_says, length_says, worn_says, write_says, size_says.
+-- Main: open_says, pull_says, find_says, body_says, empty_says, strikes_say, read_is, read_says, length_says, worn_says, write_says,
+-- size_says.
 use Rattle.std.proofs.Math.Path.{◌≡◌, refl, sym, ap}
 use Rattle.std.proofs.Common.{◌∙◌, subst, true≢false}
 use Rattle.std.specs.Prelude.{◌⊎◌, Bool, true, false, ◌||◌, not, cond, List, eqb, length}
@@ -34,7 +35,7 @@ use Rattle.book.specs.Damaged.{damaged_first, damaged_none}
 use Rattle.writer.specs.Writing.{book_length, size_refusal, lengths_good, write_refusal, Written}
 use Rattle.writer.specs.Shown.{written_shows}
 use Rattle.demands.specs.Settled.{said_once}
-use Rattle.demands.specs.CardDemands.{the_near}
+use Rattle.demands.proofs.CardDemands.{the_near}
 use Rattle.demands.specs.Demands.{opening_refusal, OpenSays, Pulled, Missing, PullAs, PullSays, EmptySays}
 use Rattle.demands.specs.Demands.{StrikesSay, reading_refusal, ReadNear, ReadCard, ReadAs, ReadSays}
 use Rattle.demands.specs.Demands.{Delays, no_cards, one_more, Hole, LengthSum, LengthHole, LengthAs, LengthSays}

@@ -9,7 +9,7 @@ use Rattle.std.proofs.Math.Option.{Option, none, some}
 use Prim.Native.Nat.{ℕ, zero, suc, ◌+◌, ◌-◌, ◌≤◌}
 use borrow.Author.Tests.{ne_eqb, le-ltb}
 use Rattle.algebra.specs.Tests.{any_above}
-use Rattle.algebra.specs.SmallField.{small_field}
+use Rattle.algebra.proofs.SmallField.{small_field}
 use Rattle.refusal.specs.declared.Outcome.{Outcome}
 use Rattle.refusal.specs.declared.Answer.{Answer}
 use Rattle.refusal.specs.Replies.{outcome, Reply, replied, reply, reply_with, unless}

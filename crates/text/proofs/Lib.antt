@@ -1,0 +1,2 @@
+-- Theorems of the crate `text`, in reading order.
+pub mod WritingLaws

@@ -1,0 +1,124 @@
+-- The answer of the operation: how each comes about, and what a caller learns from it.
+-- Main: answer-long, answer-short, numbers-short, counts-short, answer-wrong, read-so, tunes-room, strikes-room, counts-size, read-front.
+use Rattle.std.specs.Prelude.{◌≡◌, refl, Bool, true, false, cond, List, ℕ, ◌≤◌, ◌<◌, ltb, length, take}
+use Rattle.std.proofs.Math.Path.{sym}
+use Rattle.std.proofs.Common.{ap, ◌∙◌, arith}
+use Rattle.std.proofs.Math.Bool.{or-true}
+use borrow.Author.Tests.{lt-ltb, le-ltb, ltb-false}
+use Rattle.algebra.specs.Tests.{neither}
+use Rattle.refusal.specs.declared.Refusal.TheVariants.{Length}
+use Rattle.text.proofs.WritingLaws.{written_front}
+use Rattle.tune_text.specs.declared.lines.Line.{Line}
+use Rattle.tune_text.specs.declared.mistakes.Mistake.{Mistake}
+use Rattle.tune_text.specs.declared.mistakes.Check.{Check}
+use Rattle.tune_text.specs.declared.mistakes.Check.TheVariants as check
+use Rattle.tune_text.specs.declared.tunes.Sizes.{Sizes}
+use Rattle.tune_text.specs.declared.tunes.Tunes.{Tunes}
+use Rattle.tune_text.specs.declared.tunes.Tunes.TheVariants.{TooLong, Refused, Wrong, Read}
+use Rattle.tune_text.specs.Reading.{lines_said, numbers_of, strikes_of, counts_of, mistake_of}
+use Rattle.tune_text.specs.Reading.{longest_text, too_short, checked, tunes_of, when_read}
+use Rattle.tune_text.proofs.SizeLaws.{mistake_within, numbers_within, counts_length, strikes_within}
+use Rattle.tune_text.specs.Answers.{Tested, ReadSo}
+
+-- A LIST IS TOO SHORT
+module _ (t n c s : List ℕ) where
+  pub numbers-short : length n < length t → too_short t n c s ≡ true
+  unfolding too_short
+  numbers-short h = rw (lt-ltb (length n) (length t) h)
+
+  pub counts-short : length c < length t → too_short t n c s ≡ true
+  unfolding too_short
+  counts-short h = rw (lt-ltb (length c) (length t) h, or-true (ltb (length n) (length t)))
+
+  pub strikes-short : length s < length t → too_short t n c s ≡ true
+  unfolding too_short
+  strikes-short h = rw (lt-ltb (length s) (length t) h, or-true (ltb (length c) (length t)), or-true (ltb (length n) (length t)))
+
+  -- THE ANSWERS
+  pub answer-long : longest_text < length t → TooLong ≡ tunes_of t n c s
+  unfolding tunes_of
+  answer-long h = rw (lt-ltb longest_text (length t) h)
+
+  pub answer-short : length t ≤ longest_text → too_short t n c s ≡ true → Refused Length ≡ tunes_of t n c s
+  unfolding tunes_of
+  answer-short h e = rw (le-ltb longest_text (length t) h, e)
+
+  answer-tested : Tested t n c s → checked (lines_said t) (mistake_of (lines_said t)) ≡ tunes_of t n c s
+  unfolding tunes_of too_short
+  answer-tested h =
+      rw (
+        le-ltb longest_text (length t) h.text,
+        le-ltb (length n) (length t) h.numbers,
+        le-ltb (length c) (length t) h.counts,
+        le-ltb (length s) (length t) h.strikes,
+      )
+
+  pub answer-wrong : (m : Mistake) → Tested t n c s → mistake_of (lines_said t) ≡ check.Wrong m → Wrong m ≡ tunes_of t n c s
+  unfolding checked
+  answer-wrong m h e = sym (ap (checked (lines_said t)) e) ∙ answer-tested h
+
+  pub answer-read : (z : Sizes) → Tested t n c s → mistake_of (lines_said t) ≡ check.Fine
+      → z.tunes ≡ length (numbers_of (lines_said t)) → z.strikes ≡ length (strikes_of (lines_said t)) → Read z ≡ tunes_of t n c s
+  unfolding checked
+  answer-read z h e p q = rw (p, q) (sym (ap (checked (lines_said t)) e) ∙ answer-tested h)
+
+-- WHAT A CALLER LEARNS from an answer that is not the first of two
+not_first : {A : Type 0} (b : Bool) (x y z : A) → (z ≡ x → ⊥) → cond b x y ≡ z → (b ≡ false) × (y ≡ z)
+not_first true x y z n e = absurd (n (sym e))
+not_first false x y z n e = (refl, e)
+
+checked-wrong : (ls : List Line) (k : Check) (m : Mistake) → checked ls k ≡ Wrong m → k ≡ check.Wrong m
+unfolding checked
+checked-wrong ls check.Fine m e = absurd (let z : ◌≡◌ {A = ℕ} 0 1 = cc in omega arith)
+checked-wrong ls (check.Wrong k) m e = let q : k ≡ m = cc in ap check.Wrong q
+
+checked-read : (ls : List Line) (k : Check) (z : Sizes) → checked ls k ≡ Read z
+    → (k ≡ check.Fine) × (z.tunes ≡ length (numbers_of ls)) × (z.strikes ≡ length (strikes_of ls))
+unfolding checked
+checked-read ls check.Fine z e = (refl, cc, cc)
+checked-read ls (check.Wrong k) z e = absurd (let z : ◌≡◌ {A = ℕ} 0 1 = cc in omega arith)
+
+module _ (t n c s : List ℕ) where
+  tested-of : (r : Tunes) → (r ≡ TooLong → ⊥) → (r ≡ Refused Length → ⊥) → tunes_of t n c s ≡ r
+      → Tested t n c s × (checked (lines_said t) (mistake_of (lines_said t)) ≡ r)
+  unfolding tunes_of too_short
+  tested-of r p q e =
+      let a = not_first (ltb longest_text (length t)) TooLong _ r p e in
+      let b = not_first (too_short t n c s) (Refused Length) _ r q a.1 in
+      let k = neither (ltb (length n) (length t)) _ b.0 in
+      let l = neither (ltb (length c) (length t)) _ k.1 in (
+        record {
+          text = ltb-false longest_text (length t) a.0;
+          numbers = ltb-false (length n) (length t) k.0;
+          counts = ltb-false (length c) (length t) l.0;
+          strikes = ltb-false (length s) (length t) l.1;
+        },
+        b.1,
+      )
+
+  -- a mistake is on a line of a small number
+  pub wrong-line : (m : Mistake) → tunes_of t n c s ≡ Wrong m → m.line ≤ longest_text
+  wrong-line m e =
+      let g = tested-of (Wrong m) (λ p. let z : ◌≡◌ {A = ℕ} 0 1 = cc in omega arith) (λ p. let z : ◌≡◌ {A = ℕ} 0 1 = cc in omega arith) e in
+      omega (arith, mistake_within t m (checked-wrong (lines_said t) (mistake_of (lines_said t)) m g.1), g.0.text)
+
+  pub read-so : (z : Sizes) → tunes_of t n c s ≡ Read z → ReadSo t n c s z
+  read-so z e =
+      let g = tested-of (Read z) (λ p. let z : ◌≡◌ {A = ℕ} 0 1 = cc in omega arith) (λ p. let z : ◌≡◌ {A = ℕ} 0 1 = cc in omega arith) e in
+      let k = checked-read (lines_said t) (mistake_of (lines_said t)) z g.1 in
+      record { tested = g.0; fine = k.0; tunes = k.1; strikes = k.2 }
+
+-- the sizes are within the lists, and there is a count for each tune
+module _ {t n c s : List ℕ} {z : Sizes} (r : ReadSo t n c s z) where
+  pub tunes-room : (z.tunes ≤ length n) × (z.tunes ≤ length c)
+  tunes-room = let h = r.tested in let k = numbers_within t in (omega (arith, r.tunes, h.numbers), omega (arith, r.tunes, h.counts))
+
+  pub strikes-room : z.strikes ≤ length s
+  strikes-room = let h = r.tested in omega (arith, r.strikes, h.strikes, strikes_within t)
+
+  pub counts-size : z.tunes ≡ length (counts_of (lines_said t))
+  counts-size = r.tunes ∙ sym (counts_length (lines_said t))
+
+-- a lent list begins with what was read
+pub read-front : (r : Tunes) (z : Sizes) (old new now : List ℕ) → r ≡ Read z → now ≡ when_read r old new → take (length new) now ≡ new
+read-front r z old new now p e = let w : now ≡ when_read (Read z) old new = rw p at e in rw w (written_front old new)

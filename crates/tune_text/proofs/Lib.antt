@@ -1,0 +1,6 @@
+-- Theorems of the crate `tune_text`, in reading order.
+pub mod PieceLaws
+pub mod SizeLaws
+pub mod WordLaws
+pub mod LineLaws
+pub mod AnswerLaws
