@@ -13,7 +13,7 @@ use Rattle.book.specs.declared.entries.Tune.{Tune}
 use Rattle.book.specs.declared.reading.Reading.{Reading}
 use Rattle.book.specs.declared.reading.Reading.TheVariants as readings
 use Rattle.book.specs.Pull.{pulled}
-use Rattle.book.specs.Pulled.{pulled_good}
+use Rattle.book.proofs.Pulled.{pulled_good}
 use Rattle.book.specs.Entries.{tune_reply, tune_at}
 use Rattle.book.specs.Reading.{CardValue, read_reply, reading}
 use Rattle.book.specs.Bounds.{good_length}

@@ -27,13 +27,13 @@ use Rattle.book.specs.Open.{size_bad, numbers_bad, bodies_bad, contents_refusal,
 use Rattle.book.specs.Pull.{entry_of, missing, part_at, pull_refusal, pulled}
 use Rattle.book.specs.Reading.{CardValue, no_value, card_refusal, card_reading, read_reply, cards_in, no_card, reading}
 use Rattle.book.specs.Bodies.{body_refusal, total_delay, flawed, is_damaged, first_damaged, worn_reply}
-use Rattle.book.specs.Accepted.{one_entry}
-use Rattle.book.specs.Pulled.{pull_accepted, pull_refused, pulled_accepted, pulled_refused, entry_found, entry_there, empty_refused}
+use Rattle.book.proofs.Accepted.{one_entry}
+use Rattle.book.proofs.Pulled.{pull_accepted, pull_refused, pulled_accepted, pulled_refused, entry_found, entry_there, empty_refused}
 use Rattle.book.specs.CardReading.{struck, card_range, card_lost, card_bell, card_strike, card_passes, read_bad, read_past, read_there, refused_reading}
 use Rattle.book.specs.Delays.{total_bad, is_refused, delay_sum, not_refused, delays_whole, delays_hole}
 use Rattle.book.specs.Damaged.{damaged_first, damaged_none}
 use Rattle.writer.specs.Writing.{book_length, size_refusal, lengths_good, write_refusal, Written}
-use Rattle.writer.specs.Shown.{written_shows}
+use Rattle.writer.proofs.Shown.{written_shows}
 use Rattle.demands.specs.Settled.{said_once}
 use Rattle.demands.proofs.CardDemands.{the_near}
 use Rattle.demands.specs.Demands.{opening_refusal, OpenSays, Pulled, Missing, PullAs, PullSays, EmptySays}

@@ -11,9 +11,9 @@ use Rattle.book.specs.Pull.{pull_refusal, pulled}
 use Rattle.book.specs.Reading.{CardValue, reading}
 use Rattle.book.specs.Bounds.{Bounded, reading_bounded}
 use Rattle.writer.specs.Writing.{book_length, lengths_good, write_refusal}
-use Rattle.writer.specs.Shown.{written_shows}
-use Rattle.writer.specs.Held.{written_held, written_once, empty_clean, never_empty, no_tunes_written}
-use Rattle.writer.specs.Again.{written_again}
+use Rattle.writer.proofs.Shown.{written_shows}
+use Rattle.writer.proofs.Held.{written_held, written_once, empty_clean, never_empty, no_tunes_written}
+use Rattle.writer.proofs.Again.{written_again}
 use Rattle.demands.specs.Demands.{opening_refusal, PullSays, InRange, reading_refusal, ReadSays, writing_refusal}
 use Rattle.demands.specs.Settled.{pull_settled, read_settled}
 use Rattle.demands.proofs.BookDemands.{pull_says, read_is}

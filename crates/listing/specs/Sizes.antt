@@ -9,7 +9,8 @@ use Rattle.rank.specs.declared.Weight.{Weight}
 use Rattle.strike.specs.declared.Strike.{Strike}
 use Rattle.book.specs.Reading.{CardValue, cards_in, reading}
 use Rattle.book.specs.Bodies.{total_delay}
-use Rattle.book.specs.Accepted.{Accepted, part_length, cards_some, number_range, part_good}
+use Rattle.book.specs.Accepted.{Accepted}
+use Rattle.book.proofs.Accepted.{part_length, cards_some, number_range, part_good}
 use Rattle.book.specs.Bounds.{good_length, Bounded, reading_bounded}
 use Rattle.book.specs.Delays.{total_bounded}
 use Rattle.text.specs.Text.{ascii, line_end, decimal, spaced, word_line, joined}

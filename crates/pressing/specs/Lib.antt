@@ -6,8 +6,6 @@ pub mod Lists
 -- What comes of a text, by what was read of it
 pub mod Texts
 -- What the book shows, and how long book and line are
-pub mod Shown
 -- What a caller learns from the answer
-pub mod Answers
 -- A text and its book, and texts of which something is said
 pub mod Example

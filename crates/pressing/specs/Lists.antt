@@ -19,7 +19,7 @@ use Rattle.text.specs.Decimal.{two_digits, spaced_length, book_refused_length}
 use Rattle.text.specs.Writing.{Wrote}
 use Rattle.text.proofs.WritingLaws.{wrote_none}
 use Rattle.writer.specs.Writing.{book_bytes, book_length, size_refusal, any_zero, lengths_good, write_refusal, Written}
-use Rattle.writer.specs.Filled.{whole_fits}
+use Rattle.writer.proofs.Filled.{whole_fits}
 use Rattle.tune_text.specs.MistakeLines.{longest_line}
 use Rattle.pressing.specs.declared.lists.Lengths.{Lengths}
 use Rattle.pressing.specs.Pressing.{lists_refusal, refusal_line}

@@ -16,6 +16,7 @@ pub enum Pressed {
 }
 
 // Whether one of the lists lent is too short, by their lengths.
+#[tactic(auto, unfolding(crate::specs::Pressing::lengths_short))]
 fn lengths_short(numbers: usize, counts: usize, strikes: usize, book: usize, line: usize) -> bool
     ensures { result ≡ lengths_short numbers counts strikes book line }
 {

@@ -13,7 +13,8 @@ use Rattle.refusal.specs.declared.Answer.{Answer}
 use Rattle.refusal.specs.declared.Answer.TheVariants as answers
 use Rattle.book.specs.Layout.{longest_book, tunes}
 use Rattle.book.specs.Open.{size_bad, contents_refusal, open_refusal}
-use Rattle.book.specs.Accepted.{Accepted, empty_accepted, empty_tunes, some_tested}
+use Rattle.book.specs.Accepted.{Accepted}
+use Rattle.book.proofs.Accepted.{empty_accepted, empty_tunes, some_tested}
 use Rattle.text.specs.Text.{joined, book_refused, written, room_refusal}
 use Rattle.text.proofs.WritingLaws.{written_front}
 use Rattle.listing.specs.Listing.{tune_text}

@@ -8,7 +8,8 @@ use Rattle.std.proofs.Math.ListN.{length-append}
 use Rattle.std.proofs.Common.{eqb-true}
 use Rattle.book.specs.Layout.{tunes, contents_end, cards}
 use Rattle.book.specs.Open.{open_refusal}
-use Rattle.book.specs.Accepted.{Accepted, empty_tunes, book_within, body_start, bodies_fill, cards_some}
+use Rattle.book.specs.Accepted.{Accepted, body_start}
+use Rattle.book.proofs.Accepted.{empty_tunes, book_within, bodies_fill, cards_some}
 use Rattle.book.specs.Bounds.{open_bounded}
 use Rattle.text.specs.Text.{joined, book_refused}
 use Rattle.text.specs.Decimal.{two_digits, spaced_length, book_refused_length}

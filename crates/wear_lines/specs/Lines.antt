@@ -9,7 +9,8 @@ use Rattle.refusal.specs.declared.Refusal.TheVariants.{Width}
 use Rattle.refusal.specs.Replies.{number, refusal_some, reply_with, reply_refused, reply_value}
 use Rattle.book.specs.Layout.{tune_number, cards, part_of}
 use Rattle.book.specs.Reading.{cards_in}
-use Rattle.book.specs.Accepted.{AcceptedEntry, part_length, part_good, number_range}
+use Rattle.book.specs.Accepted.{AcceptedEntry}
+use Rattle.book.proofs.Accepted.{part_length, part_good, number_range}
 use Rattle.book.specs.Bounds.{good_length}
 use Rattle.wear.specs.declared.runs.Run.{Run}
 use Rattle.wear.specs.declared.runs.Wear.{Wear}

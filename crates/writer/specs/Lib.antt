@@ -15,5 +15,4 @@ pub mod Again
 -- What a written book holds, and that it holds one triple of lists only
 pub mod Held
 -- What the code does, step by step: the tests, and the filling of a book
-pub mod Tested
 pub mod Filled

@@ -5,7 +5,8 @@ use lib.ListN.{length}
 use borrow.Author.Rules.{rules}
 use Rattle.refusal.specs.Replies.{answer_refused, answer_value}
 use Rattle.book.specs.Pull.{pull_refusal, pulled}
-use Rattle.book.specs.Pulled.{There, pulls_only}
+use Rattle.book.specs.Pulled.{There}
+use Rattle.book.proofs.Pulled.{pulls_only}
 use Rattle.capi.specs.Given.{unless_none, unless_same, pulled_short}
 use Rattle.capi.proofs.lucetcoral_tune_body.Goals as goal
 use Rattle.capi.proofs.lucetcoral_tune_body.Goals.{In-Value}

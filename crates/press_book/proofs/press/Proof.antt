@@ -4,7 +4,7 @@ use mathlib.Core.Path.{sym}
 use native.Mathlib.Omega.{arith}
 use borrow.Author.Rules.{rules}
 use lib.Seq.{length-take-le}
-use Rattle.pressing.specs.Answers.{book_within, line-within, book-front, line-front}
+use Rattle.pressing.proofs.AnswerLaws.{book_within, line-within, book-front, line-front}
 use Rattle.press_book.proofs.press.Statement.{statement}
 use Rattle.press_book.proofs.press.Tie as tie
 

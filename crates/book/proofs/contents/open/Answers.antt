@@ -5,7 +5,7 @@ use native.Mathlib.Omega.{arith}
 use borrow.Author.Rules.{rules}
 use Rattle.refusal.specs.Replies.{reply_with}
 use Rattle.book.specs.Open.{size_bad, numbers_bad, bodies_bad, contents_refusal}
-use Rattle.book.specs.Accepted.{empty_accepted, empty_tunes, some_tested, size_within}
+use Rattle.book.proofs.Accepted.{empty_accepted, empty_tunes, some_tested, size_within}
 use Rattle.book.proofs.contents.open.Goals as goal
 
 pub returns-then-book-eq0 : goal.returns-then-book-eq0

@@ -3,7 +3,7 @@ use native.Mathlib.Nat.{add-sub_cancel_left}
 use native.Mathlib.Omega.{arith}
 use borrow.Author.Rules.{rules}
 use Rattle.book.specs.Layout.{part_of}
-use Rattle.book.specs.Accepted.{entries_within, part_within}
+use Rattle.book.proofs.Accepted.{entries_within, part_within}
 use Rattle.book.proofs.entries.body_at.Goals as goal
 
 pub offset_of-start-requires : goal.offset_of-start-requires

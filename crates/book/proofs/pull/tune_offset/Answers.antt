@@ -2,7 +2,8 @@
 use mathlib.Core.Path.{sym, ◌∙◌}
 use borrow.Author.Rules.{rules}
 use Rattle.refusal.specs.Replies.{answer_refused, answer_value}
-use Rattle.book.specs.Pulled.{There, pulls_only, refused_from}
+use Rattle.book.specs.Pulled.{There}
+use Rattle.book.proofs.Pulled.{pulls_only, refused_from}
 use Rattle.book.proofs.pull.tune_offset.Goals as goal
 use Rattle.book.proofs.pull.tune_offset.Goals.{In-Value}
 

@@ -9,8 +9,9 @@ use Rattle.book.specs.Layout.{tunes}
 use Rattle.book.specs.Open.{open_refusal}
 use Rattle.book.specs.Pull.{entry_of}
 use Rattle.book.specs.ContentsLoops.{place_of}
-use Rattle.book.specs.Accepted.{Accepted, entries_within}
-use Rattle.book.specs.Pulled.{pull_accepted, pull_refused, entry_found}
+use Rattle.book.specs.Accepted.{Accepted}
+use Rattle.book.proofs.Accepted.{entries_within}
+use Rattle.book.proofs.Pulled.{pull_accepted, pull_refused, entry_found}
 use Rattle.book.proofs.pull.tune_place.Goals as goal
 use Rattle.book.proofs.pull.tune_place.Goals.{After-find_entry, In-Value}
 

@@ -17,7 +17,7 @@ good : (c : Else-not-body_good) → body_good c.args.body.now ≡ true
 good c = sym c.body_good.ensures ∙ c.if-not-body_good.false
 
 pub returns-then-no_card : goal.returns-then-no_card
-returns-then-no_card c = read_past _ _ (good (goal.at.returns-then-no_card c).Else-not-body_good) (sym c.no_card.ensures ∙ c.if-no_card.true)
+returns-then-no_card c = read_past _ _ (cc) (sym c.no_card.ensures ∙ c.if-no_card.true)
 
 -- past the second the card is there
 there : (c : Else-no_card) → no_card c.args.body.now c.args.number ≡ false

@@ -3,7 +3,7 @@ use native.Mathlib.Omega.{arith}
 use borrow.Author.Rules.{rules}
 use Rattle.book.specs.Layout.{tune_number, cards}
 use Rattle.book.specs.Entries.{entry_parts}
-use Rattle.book.specs.Accepted.{part_good}
+use Rattle.book.proofs.Accepted.{part_good}
 use Rattle.text.specs.Writing.{Wrote}
 use Rattle.text.proofs.WritingLaws.{wrote_then, room_then}
 use Rattle.listing.specs.Listing.{tune_line, tune_text}

@@ -1,6 +1,6 @@
 -- `pressing::texts::press` meets its contract: the lists are tested, and long enough for what comes of the text.
 use borrow.Author.Rules.{rules}
-use Rattle.pressing.specs.Texts.{enough, presses_refused, presses_both}
+use Rattle.pressing.proofs.TextLaws.{enough, presses_refused, presses_both}
 use Rattle.pressing.proofs.texts.press.Goals as goal
 
 pub returns-then-lengths_short : goal.returns-then-lengths_short

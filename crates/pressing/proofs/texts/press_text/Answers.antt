@@ -4,8 +4,9 @@ use native.Mathlib.Omega.{arith}
 use borrow.Author.Rules.{rules}
 use lib.Seq.{length-take-le}
 use Rattle.tune_text.proofs.AnswerLaws.{tunes-room, strikes-room}
-use Rattle.pressing.specs.Texts.{ListsRead, sizes_so, said_long, said_wrong, said_read, never_refused, wrong_room}
-use Rattle.pressing.specs.Texts.{mistake_some, line_only, lists_both}
+use Rattle.pressing.specs.Texts.{ListsRead}
+use Rattle.pressing.proofs.TextLaws.{sizes_so, said_long, said_wrong, said_read, never_refused, wrong_room}
+use Rattle.pressing.proofs.TextLaws.{mistake_some, line_only, lists_both}
 use Rattle.pressing.proofs.texts.press_text.Goals as goal
 use Rattle.pressing.proofs.texts.press_text.Goals.{After-read_tunes}
 
@@ -57,16 +58,16 @@ returns-in-Read c =
     record { both_wrote = lists_both (lists (goal.at.returns-in-Read c).After-read_tunes) e c.in-Read.is x c.press_lists.ensures; lists_read = lists (goal.at.returns-in-Read c).After-read_tunes }
 
 pub slice_bounds-press_lists-end-in-Read : goal.slice_bounds-press_lists-end-in-Read
-slice_bounds-press_lists-end-in-Read c = 
+slice_bounds-press_lists-end-in-Read c =
     let q = sizes_so c.read_tunes.ensures.value c.in-Read.is in
     sym (length-take-le _ _ (omega (arith, (tunes-room q).0)))
 
 pub slice_bounds-press_lists-end-in-Read-3 : goal.slice_bounds-press_lists-end-in-Read-3
-slice_bounds-press_lists-end-in-Read-3 c = 
+slice_bounds-press_lists-end-in-Read-3 c =
     let q = sizes_so c.read_tunes.ensures.value c.in-Read.is in
     sym (length-take-le _ _ (omega (arith, (tunes-room q).1)))
 
 pub slice_bounds-press_lists-end-in-Read-5 : goal.slice_bounds-press_lists-end-in-Read-5
-slice_bounds-press_lists-end-in-Read-5 c = 
+slice_bounds-press_lists-end-in-Read-5 c =
     let q = sizes_so c.read_tunes.ensures.value c.in-Read.is in
     sym (length-take-le _ _ (omega (arith, strikes-room q)))

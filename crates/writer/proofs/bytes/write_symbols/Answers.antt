@@ -1,7 +1,7 @@
 -- `writer::bytes::write_symbols` meets its contract: six numbers one after another.
 use borrow.Author.Rules.{rules}
 use Rattle.book.specs.Layout.{two_bytes}
-use Rattle.writer.specs.Filled.{wrote_six}
+use Rattle.writer.proofs.Filled.{wrote_six}
 use Rattle.writer.proofs.bytes.write_symbols.Goals as goal
 
 pub write_two-two-requires : goal.write_two-two-requires

@@ -2,7 +2,7 @@
 use native.Mathlib.Omega.{arith}
 use lib.ListN.{length-set}
 use borrow.Author.Rules.{rules}
-use Rattle.writer.specs.Filled.{wrote_two}
+use Rattle.writer.proofs.Filled.{wrote_two}
 use Rattle.writer.proofs.bytes.write_two.Goals as goal
 
 pub bounds-book-at-2 : goal.bounds-book-at-2

@@ -4,7 +4,8 @@ use native.Mathlib.Omega.{arith}
 use lib.ListN.{length}
 use borrow.Author.Rules.{rules}
 use Rattle.text.proofs.WritingLaws.{wrote_length}
-use Rattle.writer.specs.Filled.{CardsSoFar, cards_start, cards_room, cards_next, cards_done}
+use Rattle.writer.specs.Filled.{CardsSoFar}
+use Rattle.writer.proofs.Filled.{cards_start, cards_room, cards_next, cards_done}
 use Rattle.writer.proofs.filling.write_cards.Goals as goal
 
 pub loop-i-init : goal.loop-i-init

@@ -4,7 +4,7 @@ use Prim.Native.Nat.{◌-◌}
 use lib.ListN.{length, drop}
 use borrow.Author.Rules.{rules}
 use Rattle.writer.specs.Writing.{any_zero}
-use Rattle.writer.specs.Tested.{zero_next, zero_here, zero_end}
+use Rattle.writer.proofs.Tested.{zero_next, zero_here, zero_end}
 use Rattle.writer.proofs.tests.any_zero.Given as goal
 
 abbrev pub invariant-loop-e : goal.invariant-loop-e

@@ -7,7 +7,7 @@ use Rattle.refusal.specs.Replies.{number}
 use Rattle.refusal.specs.declared.Refusal.TheVariants.{Length, TuneNumber, Layout}
 use Rattle.book.specs.Open.{rising}
 use Rattle.writer.specs.Writing.{any_zero, lengths_good, write_refusal}
-use Rattle.writer.specs.Tested.{later_tests, contents_within, strikes_wrong, room_wrong, lengths_right}
+use Rattle.writer.proofs.Tested.{later_tests, contents_within, strikes_wrong, room_wrong, lengths_right}
 use mathlib.Core.Path.{ap}
 use Rattle.writer.proofs.tests.later_tests.Goals as goal
 use Rattle.writer.proofs.tests.later_tests.Goals.{Else-any_zero, Start}

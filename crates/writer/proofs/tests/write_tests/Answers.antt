@@ -7,7 +7,7 @@ use borrow.Author.Tests.{ne_eqb}
 use Rattle.refusal.specs.Replies.{answer_refused, answer_value}
 use Rattle.strike.specs.Turns.{strikes_bad}
 use Rattle.writer.specs.Writing.{book_length, size_refusal, write_refusal}
-use Rattle.writer.specs.Tested.{size_decides, size_fits}
+use Rattle.writer.proofs.Tested.{size_decides, size_fits}
 use Rattle.writer.proofs.tests.write_tests.Goals as goal
 use Rattle.writer.proofs.tests.write_tests.Goals.{Else-strikes_bad}
 

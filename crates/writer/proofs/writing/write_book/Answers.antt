@@ -8,7 +8,7 @@ use Rattle.strike.specs.Turns.{strikes}
 use Rattle.text.proofs.WritingLaws.{wrote_then, room_then}
 use Rattle.writer.specs.Writing.{contents_bytes, cards_bytes, book_bytes}
 use Rattle.writer.specs.Writable.{Writable}
-use Rattle.writer.specs.Filled.{written_refused, passed, whole_fits, written_done}
+use Rattle.writer.proofs.Filled.{written_refused, passed, whole_fits, written_done}
 use Rattle.writer.proofs.writing.write_book.Goals as goal
 use Rattle.writer.proofs.writing.write_book.Goals.{In_default}
 

@@ -1,6 +1,6 @@
 -- The writer's tests as the code runs them: counts added up and looked through, and one test after another.
--- Main: all_cards_next, all_cards_end, size_refused, size_passed, size_fits; zero_next, zero_here, zero_end; size_decides, later_tests,
--- contents_within, strikes_wrong, room_wrong, lengths_right.
+-- Main: all_cards_next, all_cards_end, size_refused, size_passed, zero_here, later_tests, contents_within, strikes_wrong, room_wrong,
+-- lengths_right.
 use Rattle.std.specs.Prelude.{◌≡◌, Bool, not, List, ℕ, ◌+◌, ◌*◌, ◌-◌, ◌/◌, ◌≤◌, ◌<◌, ltb, length, get_or, drop}
 use Rattle.std.proofs.Math.Path.{refl, sym}
 use Rattle.std.proofs.Common.{◌∙◌, add-one, arith, drop_of_length-le}

@@ -1,5 +1,5 @@
 -- What press_book prints is a book that shows the strikes of the text; and it prints either a book or a line.
--- Main: text_shown; book_some, pressed_within, said_within.
+-- Main: pressed_within, said_within.
 use Rattle.std.specs.Prelude.{◌≡◌, refl, Bool, true, false, cond, List, [], ℕ, ◌≤◌, ltb, eqb, length}
 use Rattle.std.proofs.Common.{ap, arith, ltb-false, eqb-true}
 use Rattle.std.proofs.Math.Decide.{ℕ_discrete}
@@ -13,12 +13,13 @@ use Rattle.tune_text.proofs.SizeLaws.{mistake_within}
 use Rattle.tune_text.specs.MistakeLines.{longest_line, too_long_line, mistake_line_within, too_long_within}
 use Rattle.writer.specs.Writing.{book_bytes, book_length}
 use Rattle.writer.specs.Layouts.{length_book}
-use Rattle.writer.specs.Writable.{writable}
-use Rattle.writer.specs.Shown.{Shows, written_shows}
+use Rattle.writer.proofs.Writable.{writable}
+use Rattle.writer.specs.Shown.{Shows}
+use Rattle.writer.proofs.Shown.{written_shows}
 use Rattle.pressing.specs.Pressing.{text_numbers, text_counts, text_strikes, lists_refusal, press_refusal}
 use Rattle.pressing.specs.Pressing.{refusal_line, mistake_or, said, pressed}
 use Rattle.pressing.specs.Lists.{refused_within}
-use Rattle.pressing.specs.Texts.{mistake_some, pressed_none}
+use Rattle.pressing.proofs.TextLaws.{mistake_some, pressed_none}
 
 -- NOTHING IS SAID only if nothing is refused
 line_none : (n : ℕ) → length (refusal_line n) ≡ 0 → n ≡ 0

@@ -11,7 +11,7 @@ use Rattle.pressing.specs.declared.lists.Lengths.{Lengths}
 use Rattle.pressing.specs.declared.texts.Pressed.{Pressed}
 use Rattle.pressing.specs.declared.texts.Pressed.TheVariants.{Texts}
 use Rattle.pressing.specs.Pressing.{said, pressed, lent_refusal, no_bytes, both_lengths, Presses}
-use Rattle.pressing.specs.Shown.{pressed_within, said_within}
+use Rattle.pressing.proofs.Shown.{pressed_within, said_within}
 
 -- a list that begins with as many bytes as were written
 front : (m : ℕ) (x old list : List ℕ) (size : ℕ) → m ≡ 0 → size ≡ length x → list ≡ unless m (written old 0 x) old → take size list ≡ x

@@ -1,0 +1,3 @@
+-- Theorems of the crate `book`, in reading order.
+pub mod Accepted
+pub mod Pulled

@@ -1,0 +1,4 @@
+-- Theorems of the crate `pressing`, in reading order.
+pub mod TextLaws
+pub mod Shown
+pub mod AnswerLaws
