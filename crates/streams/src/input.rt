@@ -58,15 +58,16 @@ fn has_argument(rt: &impl Env, number: usize) -> bool {
     !matches!(rt.arg(number, &mut []), Err(FillError::NotPresent))
 }
 
-// Opens the file that the argument names. The system has no longer names than fit here, and the standard library opens none but those of UTF-8.
+// Opens the file that the argument names. The system knows no names of more bytes than fit here, and the standard library opens names of UTF-8
+// alone.
 fn open_named(rt: &HostRuntime) -> io::Result<File> {
     let mut path = [0u8; 4096];
     let Ok(n) = rt.arg(1, &mut path) else {
-        return Err(io::Error::from(io::ErrorKind::InvalidFilename));
+        return Err(io::Error::new(io::ErrorKind::InvalidFilename, "File name too long"));
     };
     match str::from_utf8(&path[..n]) {
         Ok(name) => File::open(rt, name),
-        Err(_) => Err(io::Error::from(io::ErrorKind::InvalidFilename)),
+        Err(_) => Err(io::Error::new(io::ErrorKind::InvalidFilename, "File name not in UTF-8")),
     }
 }
 
