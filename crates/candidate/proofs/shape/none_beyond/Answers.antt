@@ -1,0 +1,9 @@
+-- `candidate::shape::none_beyond` meets its contract: the test written out.
+use Rattle.rank.specs.Definitions.{at}
+use Rattle.candidate.specs.Places.{none_written}
+use borrow.Author.Rules.{rules}
+use Rattle.candidate.proofs.shape.none_beyond.Goals as goal
+
+pub returns : goal.returns
+unfolding at
+returns c = none_written c.args.k c.requires.0 c.requires.1 (at c.args.r)

@@ -1,0 +1,13 @@
+-- `codec::packed::symbols_of` meets its contract: six symbols of two halves each.
+use mathlib.Core.Path.{refl, ◌∙◌}
+use borrow.Author.Rules.{rules}
+use Rattle.algebra.specs.Lists.{cons}
+use Rattle.transform.specs.Remainders.{symbols_halves}
+use Rattle.codec.proofs.packed.symbols_of.Goals as goal
+
+pub returns : goal.returns
+returns c =
+    cons c.symbol.ensures (cons c.symbol-2.ensures (cons c.symbol-3.ensures
+    (cons c.symbol-4.ensures (cons c.symbol-5.ensures (cons c.symbol-6.ensures refl)))))
+    ∙ symbols_halves c.args.a _ _ _ _
+    c.halves-p.ensures c.halves-q.ensures c.halves-r.ensures c.halves-s.ensures

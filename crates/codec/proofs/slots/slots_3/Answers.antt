@@ -1,0 +1,15 @@
+-- `codec::slots::slots_3` meets its contract: the rows are those of the slots, computed, and what they add up to is the slots.
+use mathlib.Core.Path.{ap, ◌∙◌}
+use lib.Dec.{lit≤}
+use borrow.Author.Rules.{rules}
+use Rattle.transform.specs.Packed.{symbols_of}
+use Rattle.transform.specs.Counts.{six_added}
+use Rattle.transform.specs.Slots.{slot_map, computing_slots, slot_mapped}
+use Rattle.codec.proofs.slots.slots_3.Goals as goal
+
+pub returns : goal.returns
+unfolding computing_slots
+returns c =
+    c.symbols_of.ensures ∙ ap symbols_of (six_added (slot_map 3) _ c.add_symbol-s0.ensures.same c.add_symbol-s1.ensures.same
+    c.add_symbol-s2.ensures.same c.add_symbol-s3.ensures.same c.add_symbol-s4.ensures.same c.add_symbol-s5.ensures.same)
+    ∙ slot_mapped 3 (lit≤ tt) (lit≤ tt) _

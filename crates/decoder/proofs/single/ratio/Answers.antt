@@ -1,0 +1,10 @@
+-- `decoder::single::ratio` meets its contract: a product with the cube of an inverse.
+use mathlib.Core.Path.{ap, ◌∙◌}
+use Rattle.algebra.specs.Field.{times, cube}
+use Rattle.algebra.specs.Inverses.{inverse_cube}
+use borrow.Author.Rules.{rules}
+use Rattle.decoder.proofs.single.ratio.Goals as goal
+
+pub returns : goal.returns
+returns c =
+    c.cube_product_with.ensures ∙ ap (times c.args.v) (ap cube c.inverse_with.ensures ∙ inverse_cube _)

@@ -1,0 +1,6 @@
+-- `decoder::two::inner_coefficient` meets its contract: solved by a window whose middle numerator is computed here.
+use borrow.Author.Rules.{rules}
+use Rattle.decoder.proofs.two.inner_coefficient.Goals as goal
+
+pub returns : goal.returns
+returns c = rw (c.solved.ensures, c.difference-e.ensures, c.value_at.ensures)

@@ -1,0 +1,13 @@
+-- `decoder::window::annihilator_of` meets its contract: each field by its own call.
+use mathlib.Core.Path.{ap, ◌∙◌}
+use Rattle.algebra.specs.Inverses.{inverse}
+use borrow.Author.Rules.{rules}
+use Rattle.decoder.proofs.window.annihilator_of.Goals as goal
+
+pub returns : goal.returns
+returns c =
+    record {
+      inverse = c.inverse_with.ensures ∙ ap inverse c.determinant-before.ensures;
+      numerator = c.numerator.ensures;
+      determinant = c.requires.0;
+    }

@@ -1,0 +1,14 @@
+-- `strike::strikes_bad` meets its contract: the numbers that are left, under the bounds as they stand, decide.
+use mathlib.Core.Path.{◌≡◌, refl, sym, ◌∙◌}
+use Prim.Native.Nat.{◌-◌}
+use native.Mathlib.Omega.{arith}
+use lib.ListN.{length, drop}
+use borrow.Author.Rules.{rules}
+use Rattle.strike.specs.Turns.{any_beyond, strikes_bad, beyond_next, beyond_here, beyond_end}
+use Rattle.strike.proofs.strikes_bad.Given as goal
+
+abbrev pub invariant-loop-i : goal.invariant-loop-i
+invariant-loop-i l = strikes_bad l.numbers ≡ any_beyond l.most l.next l.last (drop l.i l.numbers)
+
+abbrev pub decreases-loop-i : goal.decreases-loop-i
+decreases-loop-i l = length l.numbers - l.i
