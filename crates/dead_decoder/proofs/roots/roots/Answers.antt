@@ -1,0 +1,16 @@
+-- `dead_decoder::roots::roots` meets its contract: the root of a line, or the two of a square completed.
+use Rattle.rank.specs.Definitions.{at}
+use Rattle.dead_decoder.specs.Roots.{roots_line, roots_square}
+use borrow.Author.Rules.{rules}
+use Rattle.dead_decoder.proofs.roots.roots.Goals as goal
+
+pub returns-then-a-eq0 : goal.returns-then-a-eq0
+unfolding at
+returns-then-a-eq0 c =
+    roots_line c.args.q _ _ _ c.requires.0 c.if-a-eq0.true c.difference.ensures c.quotient_with-u.ensures c.low-x.ensures
+
+pub returns : goal.returns
+unfolding at
+returns c =
+    roots_square c.args.q _ _ _ _ _ _ _ _ c.if-a-eq0.false c.crossed.ensures c.square_root-r.ensures c.sum.ensures c.quotient_with-u-2.ensures
+    c.difference-2.ensures c.quotient_with-v.ensures c.low.ensures c.low-2.ensures

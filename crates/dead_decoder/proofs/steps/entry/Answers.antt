@@ -1,0 +1,6 @@
+-- `dead_decoder::steps::entry` meets its contract: one product and one difference.
+use borrow.Author.Rules.{rules}
+use Rattle.dead_decoder.proofs.steps.entry.Goals as goal
+
+pub returns : goal.returns
+returns c = cc

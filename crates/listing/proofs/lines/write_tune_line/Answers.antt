@@ -1,0 +1,30 @@
+-- `listing::lines::write_tune_line` meets its contract: the parts of the line one after another.
+use native.Mathlib.Omega.{arith}
+use lib.ListN.{length-append}
+use borrow.Author.Rules.{rules}
+use Rattle.listing.specs.Listing.{tune_line}
+use Rattle.text.specs.Writing.{wrote_then}
+use Rattle.listing.proofs.lines.write_tune_line.Goals as goal
+
+pub write_word-word_end-requires : goal.write_word-word_end-requires
+unfolding tune_line
+write_word-word_end-requires c = omega (arith, simp length-append at c.requires)
+
+pub write_spaced-number_end-requires : goal.write_spaced-number_end-requires
+unfolding tune_line
+write_spaced-number_end-requires c = omega (arith, simp length-append at c.requires)
+
+pub write_spaced-cards_end-requires : goal.write_spaced-cards_end-requires
+unfolding tune_line
+write_spaced-cards_end-requires c =
+    omega (arith, simp length-append at c.requires)
+
+pub write_byte-requires : goal.write_byte-requires
+unfolding tune_line
+write_byte-requires c =
+    omega (arith, simp length-append at c.requires)
+
+pub returns : goal.returns
+unfolding tune_line
+returns c =
+    wrote_then (wrote_then (wrote_then c.write_word-word_end.ensures c.write_spaced-number_end.ensures) c.write_spaced-cards_end.ensures) c.write_byte.ensures

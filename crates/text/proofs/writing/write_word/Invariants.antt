@@ -1,0 +1,12 @@
+-- `text::writing::write_word` meets its contract: the first i bytes of the word were written.
+use Prim.Native.Nat.{◌-◌}
+use native.Mathlib.Omega.{arith}
+use lib.ListN.{length}
+use Rattle.text.specs.Writing.{wrote_length, Copying, copying_start, copying_next, copying_end}
+use Rattle.text.proofs.writing.write_word.Given as goal
+
+abbrev pub invariant-loop-i : goal.invariant-loop-i
+invariant-loop-i l = Copying l.initial.text l.at l.word l.text l.i
+
+abbrev pub decreases-loop-i : goal.decreases-loop-i
+decreases-loop-i l = length l.word - l.i
