@@ -1,6 +1,6 @@
 // Decimal numbers, lists and lines from a text. Whatever is no digit separates numbers; a number that is missing is 0.
 ghost use Rattle.std.specs.Prelude.{◌≡◌, ◌<◌, ◌≤◌, length, take};
-ghost use Rattle.io.specs.Counts.{IsPrefixLen};
+ghost use Rattle.cases.specs.Counts.{IsPrefixLen};
 
 // A number, and where it ends in the text.
 #[derive(Clone, Copy)]
@@ -34,7 +34,7 @@ pub(crate) fn line_end(text: &[u8], at: usize) -> usize
 
 // The value of a digit, or a number above 9 for any other byte.
 fn digit_value(byte: u8) -> u8 {
-    std::num::wrapping_sub_u8(byte, b'0')
+    byte.wrapping_sub(b'0')
 }
 
 // The first digit from `at` on.

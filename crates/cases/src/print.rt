@@ -1,5 +1,5 @@
 // What comes of a call, printed: the status, then the numbers given back, then the lists filled, with a space before all but the first.
-// Assumes what `io` and `libc` assume of writing.
+// No contract can say what is written, and a write that fails is let go: what is not there is missed where the lines are compared.
 use book::{Entry, Reading, Worn};
 use cable::SignedAnswer;
 use rank::Weighed;
@@ -7,107 +7,107 @@ use refusal::{Answer, Outcome, Refusal};
 use wear::Wear;
 
 // A number after the first.
-pub(crate) fn number(n: u64) {
-    io::write_all(1, b" ");
-    io::print_decimal(1, n);
+pub(crate) fn number(out: &impl Print, n: u64) {
+    let _ = print!(out; " {n}");
 }
 
 // The status of a call that is done.
-pub(crate) fn done() {
-    io::write_all(1, b"0");
+pub(crate) fn done(out: &impl Print) {
+    let _ = print!(out; "0");
 }
 
 // The status of a call that is refused.
-pub(crate) fn refused(why: Refusal) {
-    io::print_decimal(1, refusal::number(why) as u64);
+pub(crate) fn refused(out: &impl Print, why: Refusal) {
+    let status = refusal::number(why);
+    let _ = print!(out; "{status}");
 }
 
-pub(crate) fn outcome(of: Outcome) {
+pub(crate) fn outcome(out: &impl Print, of: Outcome) {
     match of {
-        Outcome::Done => done(),
-        Outcome::Refused(why) => refused(why),
+        Outcome::Done => done(out),
+        Outcome::Refused(why) => refused(out, why),
     }
 }
 
 // A status of 0 and one number.
-fn done_with(n: u32) {
-    done();
-    number(n as u64);
+fn done_with(out: &impl Print, n: u32) {
+    done(out);
+    number(out, n as u64);
 }
 
-pub(crate) fn answer(of: Answer) {
+pub(crate) fn answer(out: &impl Print, of: Answer) {
     match of {
-        Answer::Value(n) => done_with(n),
-        Answer::Refused(why) => refused(why),
+        Answer::Value(n) => done_with(out, n),
+        Answer::Refused(why) => refused(out, why),
     }
 }
 
 // A weight is printed as its rank.
-pub(crate) fn weighed(of: Weighed) {
+pub(crate) fn weighed(out: &impl Print, of: Weighed) {
     match of {
-        Weighed::Weight(weight) => done_with(weight.rank),
-        Weighed::Refused(why) => refused(why),
+        Weighed::Weight(weight) => done_with(out, weight.rank),
+        Weighed::Refused(why) => refused(out, why),
     }
 }
 
-pub(crate) fn reading(of: Reading) {
+pub(crate) fn reading(out: &impl Print, of: Reading) {
     match of {
         Reading::Strike(s, damage) => {
-            done();
-            number(s.bell as u64);
-            number(s.force as u64);
-            number(s.delay as u64);
-            number(damage.rank as u64);
+            done(out);
+            number(out, s.bell as u64);
+            number(out, s.force as u64);
+            number(out, s.delay as u64);
+            number(out, damage.rank as u64);
         },
-        Reading::Refused(why) => refused(why),
+        Reading::Refused(why) => refused(out, why),
     }
 }
 
 // A tune's number and its count of cards.
-pub(crate) fn tune(of: Entry) {
+pub(crate) fn tune(out: &impl Print, of: Entry) {
     match of {
         Entry::Tune(t) => {
-            done();
-            number(t.number as u64);
-            number(t.cards as u64);
+            done(out);
+            number(out, t.number as u64);
+            number(out, t.cards as u64);
         },
-        Entry::Refused(why) => refused(why),
+        Entry::Refused(why) => refused(out, why),
     }
 }
 
 // Card 0 says that no card is damaged.
-pub(crate) fn worn(of: Worn) {
+pub(crate) fn worn(out: &impl Print, of: Worn) {
     match of {
-        Worn::Card(n) => done_with(n),
-        Worn::Nothing => done_with(0),
-        Worn::Refused(why) => refused(why),
+        Worn::Card(n) => done_with(out, n),
+        Worn::Nothing => done_with(out, 0),
+        Worn::Refused(why) => refused(out, why),
     }
 }
 
 // The sum of a run's wear, and its first card.
-pub(crate) fn run(of: Wear) {
+pub(crate) fn run(out: &impl Print, of: Wear) {
     match of {
         Wear::Run(r) => {
-            done();
-            number(r.sum as u64);
-            number(r.first as u64);
+            done(out);
+            number(out, r.sum as u64);
+            number(out, r.first as u64);
         },
-        Wear::Refused(why) => refused(why),
+        Wear::Refused(why) => refused(out, why),
     }
 }
 
-pub(crate) fn symbols(list: &[u16]) {
+pub(crate) fn symbols(out: &impl Print, list: &[u16]) {
     let mut i = 0;
     while i < list.len() {
-        number(list[i] as u64);
+        number(out, list[i] as u64);
         i += 1;
     }
 }
 
-pub(crate) fn bytes(list: &[u8]) {
+pub(crate) fn bytes(out: &impl Print, list: &[u8]) {
     let mut i = 0;
     while i < list.len() {
-        number(list[i] as u64);
+        number(out, list[i] as u64);
         i += 1;
     }
 }
@@ -121,33 +121,33 @@ fn size(n: i16) -> u64 {
 }
 
 // A signed number after the first.
-fn signed(n: i16) {
+fn signed(out: &impl Print, n: i16) {
     if n < 0 {
-        io::write_all(1, b" -");
-        io::print_decimal(1, size(n));
+        let without_sign = size(n);
+        let _ = print!(out; " -{without_sign}");
         return;
     }
-    number(size(n));
+    number(out, size(n));
 }
 
 // A status of 0 and one signed number.
-fn done_with_signed(n: i16) {
-    done();
-    signed(n);
+fn done_with_signed(out: &impl Print, n: i16) {
+    done(out);
+    signed(out, n);
 }
 
-pub(crate) fn signed_answer(of: SignedAnswer) {
+pub(crate) fn signed_answer(out: &impl Print, of: SignedAnswer) {
     match of {
-        SignedAnswer::Value(n) => done_with_signed(n),
-        SignedAnswer::Refused(why) => refused(why),
+        SignedAnswer::Value(n) => done_with_signed(out, n),
+        SignedAnswer::Refused(why) => refused(out, why),
     }
 }
 
-pub(crate) fn signed_numbers(list: &[i16]) {
+pub(crate) fn signed_numbers(out: &impl Print, list: &[i16]) {
     let mut i = 0;
     while i < list.len() {
         let n = list[i];
-        signed(n);
+        signed(out, n);
         i += 1;
     }
 }

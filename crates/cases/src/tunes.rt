@@ -1,61 +1,61 @@
 // Calls of the operations of tune books, read from a line and run. Of a book or a body the first 4,096 bytes are taken.
-// Assumes what `io` and `libc` assume of writing.
+// No contract can say what is written.
 use crate::{parse, print};
 use refusal::Outcome;
 
-pub(crate) fn open(line: &[u8], at: usize) {
-    let mut bytes = io::buffer();
+pub(crate) fn open(out: &impl Print, line: &[u8], at: usize) {
+    let mut bytes = [0u8; 4096];
     let b = parse::bytes(line, at, &mut bytes);
-    print::answer(book::open(&bytes[..b.count]));
+    print::answer(out, book::open(&bytes[..b.count]));
 }
 
-fn run_tune_body(bytes: &[u8], number: u32) {
+fn run_tune_body(out: &impl Print, bytes: &[u8], number: u32) {
     match book::find_tune(bytes, number) {
-        Outcome::Refused(why) => print::refused(why),
+        Outcome::Refused(why) => print::refused(out, why),
         Outcome::Done => {
-            print::done();
-            print::number(book::tune_offset(bytes, number) as u64);
-            print::number(book::tune_body(bytes, number).len() as u64);
+            print::done(out);
+            print::number(out, book::tune_offset(bytes, number) as u64);
+            print::number(out, book::tune_body(bytes, number).len() as u64);
         },
     }
 }
 
-pub(crate) fn tune_body(line: &[u8], at: usize) {
-    let mut bytes = io::buffer();
+pub(crate) fn tune_body(out: &impl Print, line: &[u8], at: usize) {
+    let mut bytes = [0u8; 4096];
     let number = parse::number(line, at);
     let b = parse::bytes(line, number.at, &mut bytes);
-    run_tune_body(&bytes[..b.count], number.value);
+    run_tune_body(out, &bytes[..b.count], number.value);
 }
 
-pub(crate) fn read_card(line: &[u8], at: usize) {
-    let mut bytes = io::buffer();
+pub(crate) fn read_card(out: &impl Print, line: &[u8], at: usize) {
+    let mut bytes = [0u8; 4096];
     let number = parse::number(line, at);
     let b = parse::bytes(line, number.at, &mut bytes);
-    print::reading(book::read_card(&bytes[..b.count], number.value));
+    print::reading(out, book::read_card(&bytes[..b.count], number.value));
 }
 
-pub(crate) fn total_delay(line: &[u8], at: usize) {
-    let mut bytes = io::buffer();
+pub(crate) fn total_delay(out: &impl Print, line: &[u8], at: usize) {
+    let mut bytes = [0u8; 4096];
     let b = parse::bytes(line, at, &mut bytes);
-    print::answer(book::total_delay(&bytes[..b.count]));
+    print::answer(out, book::total_delay(&bytes[..b.count]));
 }
 
-pub(crate) fn damaged_card(line: &[u8], at: usize) {
-    let mut bytes = io::buffer();
+pub(crate) fn damaged_card(out: &impl Print, line: &[u8], at: usize) {
+    let mut bytes = [0u8; 4096];
     let b = parse::bytes(line, at, &mut bytes);
-    print::worn(book::damaged_card(&bytes[..b.count]));
+    print::worn(out, book::damaged_card(&bytes[..b.count]));
 }
 
-pub(crate) fn worst_run(line: &[u8], at: usize) {
-    let mut bytes = io::buffer();
+pub(crate) fn worst_run(out: &impl Print, line: &[u8], at: usize) {
+    let mut bytes = [0u8; 4096];
     let width = parse::number(line, at);
     let b = parse::bytes(line, width.at, &mut bytes);
-    print::run(wear::worst_run(&bytes[..b.count], width.value));
+    print::run(out, wear::worst_run(&bytes[..b.count], width.value));
 }
 
-pub(crate) fn tune_at(line: &[u8], at: usize) {
-    let mut bytes = io::buffer();
+pub(crate) fn tune_at(out: &impl Print, line: &[u8], at: usize) {
+    let mut bytes = [0u8; 4096];
     let place = parse::number(line, at);
     let b = parse::bytes(line, place.at, &mut bytes);
-    print::tune(book::tune_at(&bytes[..b.count], place.value));
+    print::tune(out, book::tune_at(&bytes[..b.count], place.value));
 }

@@ -1,6 +1,6 @@
 // What the programs do that print a report (SPECIFICATION 10.1 and 10.4): they read a book, from the file that the argument names or from
 // standard input, and print its report. What is handed over to be printed is proved to be the report.
-// Assumes what `os`, `io` and `libc` assume of reading and writing.
+// No contract can say which bytes are read or written.
 #![tactic(auto)]
 
 ghost use Rattle.std.specs.Prelude.{◌≡◌, ◌≤◌, length};
@@ -12,33 +12,33 @@ use streams::Input;
 
 // Prints the report on a book, and answers how many of its bytes were taken. The book is taken for the premise alone: a caller can hand over no
 // other text. That this text is what is printed stands in the one line below, as no contract can say what is written.
-fn print_text(kind: Kind, book: &[u8], text: &[u8]) -> usize
+fn print_text(rt: &HostRuntime, kind: Kind, book: &[u8], text: &[u8]) -> usize
     requires { text.now ≡ report kind book.now }
     ensures { result ≤ length (report kind book.now) }
 {
-    streams::print(text)
+    streams::print(rt, text)
 }
 
 // Reports on a book, and answers the same. The text is lent for the report.
-fn print(kind: Kind, book: &[u8], text: &mut [u8]) -> usize
+fn print(rt: &HostRuntime, kind: Kind, book: &[u8], text: &mut [u8]) -> usize
     requires { longest ≤ length text.old }
     ensures { result ≤ length (report kind book.now) }
 {
     match report::write_report(kind, book, text) {
         Answer::Refused(_) => 0,
-        Answer::Value(size) => print_text(kind, book, &text[..size as usize]),
+        Answer::Value(size) => print_text(rt, kind, book, &text[..size as usize]),
     }
 }
 
 // Reads a book and prints its report: how many bytes were taken, 0 if it could not be read. A book has at most 65,536 bytes: one byte more
 // says that there is more.
-pub fn run(kind: Kind, usage: &[u8]) -> usize
+pub fn run(rt: &HostRuntime, kind: Kind, usage: &[u8]) -> usize
     ensures { result ≤ longest }
 {
     let mut buffer = [0u8; 65537];
     let mut text = [0u8; 131072];
-    match streams::read_book(usage, &mut buffer) {
+    match streams::read_book(rt, usage, &mut buffer) {
         Input::Failed => 0,
-        Input::Bytes(n) => print(kind, &buffer[..n], &mut text),
+        Input::Bytes(n) => print(rt, kind, &buffer[..n], &mut text),
     }
 }

@@ -1,0 +1,2 @@
+-- What is known of a count of values.
+pub mod Counts
