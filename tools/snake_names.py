@@ -30,7 +30,7 @@ def new_name(old):
 
 def definition_files():
     for f in sorted(glob.glob("crates/*/specs/**/*.antt", recursive=True) + glob.glob("crates/*/proofs/**/*.antt", recursive=True)):
-        if "/out/" not in f and not re.search(r"/(Proof|Invariants|Answers)\.antt$", f):
+        if "/out/" not in f and not re.search(r"/proofs/.*/(Proof|Invariants|Answers)\.antt$", f):
             yield f
 
 

@@ -12,7 +12,7 @@ use Rattle.rank.specs.declared.Weight.{Weight}
 use Rattle.rank.specs.Definitions.{is_card, difference}
 use Rattle.rank.specs.Weight.{weight_of}
 use Rattle.coding.specs.Code.{word, is_message}
-use Rattle.coding.specs.Answers.{answer-holds}
+use Rattle.coding.specs.Answers.{answer_holds}
 use Rattle.coding.specs.Decode.{decode, decode_answers}
 use Rattle.decoder.specs.Filling.{or_empty}
 use Rattle.decoder.specs.Decoding.{decoded_word, damage}
@@ -143,4 +143,4 @@ there_card bs n a b = rw (ne_eqb n 0 (λ e. omega arith), le-ltb (cards_in bs) n
 
 -- a message that was found
 pub decoded_message : (c m : List ℕ) → decode 2 c ≡ some m → is_message 2 m ≡ true
-decoded_message c m e = (answer-holds (decode_answers 2 c) e).message
+decoded_message c m e = (answer_holds (decode_answers 2 c) e).message

@@ -8,7 +8,7 @@ use Rattle.rank.specs.Definitions.{apart}
 use Rattle.algebra.specs.Lists.{All}
 use Rattle.algebra.specs.Tests.{both, passed}
 use Rattle.coding.specs.Options.{first_of, Good, good_first, Got, got_first}
-use Rattle.coding.specs.Answers.{Checks, test-checks, Answers}
+use Rattle.coding.specs.Answers.{Checks, test_checks, Answers}
 
 -- THE TEST of a message
 unfoldable pub is_near : (k : ℕ) → (card m : List ℕ) → Bool
@@ -19,7 +19,7 @@ if_near k c m = cond (is_near k c m) (some m) none
 
 pub near_checks : (k : ℕ) (c : List ℕ) → Checks (Near k c) (if_near k c)
 unfolding if_near is_near
-near_checks k c = test-checks (Near k c) (is_near k c)
+near_checks k c = test_checks (Near k c) (is_near k c)
     (λ m e. let h = both (is_message k m) _ e in record { message = h.0; within = leb-true _ _ h.1 })
     (λ m h. rw (h.message, le-leb (apart (word k m) c) (radius k) h.within))
 

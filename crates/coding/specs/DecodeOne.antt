@@ -13,7 +13,7 @@ use Rattle.algebra.proofs.SmallField.{small_linear}
 use Rattle.rank.specs.Definitions.{at, is_card}
 use Rattle.coding.specs.Code.{Near}
 use Rattle.coding.specs.Coefficients.{inners, higher, coefficients, read, read_higher, read_coefficients}
-use Rattle.coding.specs.Answers.{proposal-answers}
+use Rattle.coding.specs.Answers.{proposal_answers}
 use Rattle.coding.specs.Decode.{if_near, near_checks, decode}
 use Rattle.coding.specs.Spectrum.{spectrum}
 use Rattle.coding.specs.Errors.{errors, errors_beyond}
@@ -79,4 +79,4 @@ module _ (c : List ℕ) (card : is_card c ≡ true) where
   -- THE SAME as decode
   pub one_is_decode : decode_one c ≡ decode 1 c
   unfolding decode_one
-  one_is_decode = answered 1 (lit≤ tt) (lit≤ tt) c card _ (determinant_answers 1 (lit≤ tt) (lit≤ tt) c card (lit≤ tt) _ (λ n. proposal-answers (near_checks 1 c) _ (near_double n)))
+  one_is_decode = answered 1 (lit≤ tt) (lit≤ tt) c card _ (determinant_answers 1 (lit≤ tt) (lit≤ tt) c card (lit≤ tt) _ (λ n. proposal_answers (near_checks 1 c) _ (near_double n)))

@@ -11,7 +11,7 @@ use Rattle.rank.specs.Definitions.{at, is_card}
 use Rattle.coding.specs.Code.{is_message, radius, Near}
 use Rattle.coding.specs.Coefficients.{inners, higher, coefficients}
 use Rattle.coding.specs.Options.{first_of}
-use Rattle.coding.specs.Answers.{proposals-answer}
+use Rattle.coding.specs.Answers.{proposals_answer}
 use Rattle.coding.specs.Decode.{near_checks, decode}
 use Rattle.coding.specs.Spectrum.{spectrum}
 use Rattle.coding.specs.Errors.{errors, near_rank, errors_beyond}
@@ -56,7 +56,7 @@ unfolding decode_four attempt_four if_rank_one
 four_is_decode c card =
     let r = spectrum c in
     answered 4 (lit≤ tt) (lit≤ tt) c card _ (
-    proposals-answer (near_checks 4 c) 27 (λ d. rank_one_fits 4 r (last_error r d)) (λ d. rank_one_message 4 r (last_error r d)) (λ m. at m 7) (λ m near.
+    proposals_answer (near_checks 4 c) 27 (λ d. rank_one_fits 4 r (last_error r d)) (λ d. rank_one_message 4 r (last_error r d)) (λ m. at m 7) (λ m near.
     let R = few_ratio 4 (lit≤ tt) (lit≤ tt) c card m near in (
       last_below c m near,
       near_fits 4 (lit≤ tt) (lit≤ tt) c card m near R _ (last_is c m),

@@ -22,7 +22,7 @@ use Rattle.rank.specs.Definitions.{at, is_card}
 use Rattle.coding.specs.Code.{inner, is_message, Near}
 use Rattle.coding.specs.Coefficients.{inners, higher, coefficients, read, read_higher, read_coefficients}
 use Rattle.coding.specs.Options.{first_of}
-use Rattle.coding.specs.Answers.{proposals-answer}
+use Rattle.coding.specs.Answers.{proposals_answer}
 use Rattle.coding.specs.Decode.{if_near, near_checks, decode}
 use Rattle.coding.specs.Spectrum.{spectrum}
 use Rattle.coding.specs.Errors.{errors, errors_beyond}
@@ -142,5 +142,5 @@ module _ (c : List ℕ) (card : is_card c ≡ true) where
   pub two_is_decode : decode_two c ≡ decode 2 c
   unfolding decode_two attempt
   two_is_decode = answered 2 (lit≤ tt) (lit≤ tt) c card _ (determinant_answers 2 (lit≤ tt) (lit≤ tt) c card (lit≤ tt) _ (λ n.
-      proposals-answer (near_checks 2 c) 27 (λ a. eqb (high (ninth r (zeroth_error r a))) 0) (proposed r) (λ m. at m 0) (λ m near.
+      proposals_answer (near_checks 2 c) 27 (λ a. eqb (high (ninth r (zeroth_error r a))) 0) (proposed r) (λ m. at m 0) (λ m near.
       (first_below n m near, eq-eqb _ 0 (near_ninth n m near), near_proposed n m near))))

@@ -10,7 +10,7 @@ use Rattle.coding.specs.Promise.{OneNear, FarApart, WordsCards, MuThere, TestTel
 use Rattle.algebra.specs.Tests.{passed}
 use Rattle.rank.specs.Distance.{apart_sym, apart_triangle}
 use Rattle.coding.specs.Coefficients.{word_card}
-use Rattle.coding.specs.Answers.{Answers, answer-holds, answer-none, none-answer, one_answer, same_answer}
+use Rattle.coding.specs.Answers.{Answers, answer_holds, answer_none, none_answer, one_answer, same_answer}
 use Rattle.coding.specs.Decode.{decode, decode_answers}
 use Rattle.coding.specs.Apart.{same_message}
 use Rattle.coding.specs.WordSpectrum.{message_of, is_message_of, message_of_word, word_shaped, shaped_word}
@@ -46,13 +46,13 @@ module _ (k : ℕ) (p : 1 ≤ k) (q : k ≤ 5) (c : List ℕ) (card : is_card c 
   near_one m n a b = (one_near k c m n p q card a b).0
 
   pub decoded : (m : List ℕ) → (decode k c ≡ some m) ↔ Near k c m
-  decoded m = (answer-holds (decode_answers k c), one_answer near_one (decode_answers k c))
+  decoded m = (answer_holds (decode_answers k c), one_answer near_one (decode_answers k c))
 
   pub answered : (o : Option (List ℕ)) → Answers (Near k c) o → o ≡ decode k c
   answered o a = same_answer near_one o (decode k c) a (decode_answers k c)
 
 pub decode_none : (k : ℕ) (c : List ℕ) → (decode k c ≡ none) ↔ ((m : List ℕ) → Near k c m → ⊥)
-decode_none k c = (answer-none (decode_answers k c), none-answer (decode_answers k c))
+decode_none k c = (answer_none (decode_answers k c), none_answer (decode_answers k c))
 
 -- the message is read off its word, so each word has one message
 pub one_message : (k : ℕ) (m n : List ℕ) → 1 ≤ k → k ≤ 5 → is_message k m ≡ true → is_message k n ≡ true → word k m ≡ word k n → m ≡ n

@@ -14,7 +14,7 @@ use Rattle.coding.specs.Code.{Near}
 use Rattle.coding.specs.Coefficients.{coefficients, read}
 use Rattle.coding.specs.Spectrum.{spectrum}
 use Rattle.coding.specs.WordSpectrum.{message_back}
-use Rattle.coding.specs.Answers.{Answers, tested-answers}
+use Rattle.coding.specs.Answers.{Answers, tested_answers}
 use Rattle.coding.specs.Decode.{if_near, near_checks}
 use Rattle.coding.specs.Errors.{errors, errors_beyond, given_back}
 use Rattle.coding.specs.Window.{determinant, determinant_whole}
@@ -59,7 +59,7 @@ module _ (k : ℕ) (p : 1 ≤ k) (q : k ≤ 4) (c : List ℕ) (card : is_card c 
   -- so it is the answer, if every near message has such an error
   pub rank_one_answers : (u : ℕ) → ((m : List ℕ) → Near k c m → Ratio (errors k c m) × (u ≡ errors k c m 4)) → Answers (Near k c) (if_rank_one k c u)
   unfolding if_rank_one
-  rank_one_answers u h = tested-answers (near_checks k c) _ _ (λ m near. let (R, eu) = h m near in (near_fits m near R u eu, near_message m near R u eu))
+  rank_one_answers u h = tested_answers (near_checks k c) _ _ (λ m near. let (R, eu) = h m near in (near_fits m near R u eu, near_message m near R u eu))
 
   -- FOR k = 1 AND 2 the determinant decides
   abbrev D : ℕ

@@ -28,7 +28,7 @@ use Rattle.rank.specs.Echelon.{rank_echelon}
 use Rattle.coding.specs.Code.{is_message}
 use Rattle.coding.specs.Coefficients.{coefficients, read}
 use Rattle.coding.specs.Options.{first_of}
-use Rattle.coding.specs.Answers.{Answers, proposal-answers, proposals-answer}
+use Rattle.coding.specs.Answers.{Answers, proposal_answers, proposals_answer}
 use Rattle.coding.specs.Spectrum.{spectrum}
 use Rattle.coding.specs.Errors.{errors, taken_back}
 use Rattle.coding.specs.Annihilator.{Annihilated, annihilated, value_spanned, none_everywhere}
@@ -201,12 +201,12 @@ module _ (ρ σ : ℕ) (hρ : ρ < 64) (hσ : σ < 64) (k : ℕ) (p : 1 ≤ k) (
   -- A PROPOSAL with the right coefficients is an answer, and so are tries of which one has them
   one_answers : (f : ℕ → ℕ) → ((m : List ℕ) (near : NearDead k ρ σ c m) → Upto k f (stepped_on (steps ρ σ) (at (coefficients k m)))) → Answers (NearDead k ρ σ c) (proposal k ρ σ c f)
   unfolding proposal
-  one_answers f y = proposal-answers (near_dead_checks k ρ σ c) _ (λ m near. message_unstepped (steps ρ σ) k p q m (steps_invertible ρ σ hρ hσ) near.message f (y m near))
+  one_answers f y = proposal_answers (near_dead_checks k ρ σ c) _ (λ m near. message_unstepped (steps ρ σ) k p q m (steps_invertible ρ σ hρ hσ) near.message f (y m near))
 
   tries_answer : ((m : List ℕ) (near : NearDead k ρ σ c m)
       → Upto k (tried n (dead_lines ρ) h (try_of n (dead_lines ρ) (at m (2 * k - 1)))) (stepped_on (steps ρ σ) (at (coefficients k m)))) → Answers (NearDead k ρ σ c) (first_of 27 (attempt_dead n k ρ σ c h))
   unfolding attempt_dead proposal
-  tries_answer y = proposals-answer (near_dead_checks k ρ σ c) 27 (λ b. eqb (high (unstepped (steps ρ σ) (tried n (dead_lines ρ) h b) 0)) 0)
+  tries_answer y = proposals_answer (near_dead_checks k ρ σ c) 27 (λ b. eqb (high (unstepped (steps ρ σ) (tried n (dead_lines ρ) h b) 0)) 0)
       (λ b. read (table (suc k) (unstepped (steps ρ σ) (tried n (dead_lines ρ) h b)))) (λ m. try_of n (dead_lines ρ) (at m (2 * k - 1)))
       (λ m near. let u = steps_invertible ρ σ hρ hσ in (
         try_below m near.message,

@@ -17,7 +17,7 @@ use Rattle.algebra.specs.Sums.{add_whole}
 use Rattle.rank.specs.Definitions.{is_card, rank, difference, apart}
 use Rattle.rank.specs.Mask.{ones}
 use Rattle.coding.specs.Code.{word, is_message, radius}
-use Rattle.coding.specs.Answers.{Checks, test-checks, Answers, answer-holds, answer-none, none-answer, one_answer, same_answer}
+use Rattle.coding.specs.Answers.{Checks, test_checks, Answers, answer_holds, answer_none, none_answer, one_answer, same_answer}
 use Rattle.coding.specs.Decode.{is_near, if_near, find, find_answers, decode}
 use Rattle.dead_lines.specs.Struck.{bit, dead_lines, struck_from, struck_column, struck_out, live_rank, NearDead, OneNearDead}
 use Rattle.dead_lines.specs.Blanked.{blanked_from, kept, blanked}
@@ -38,7 +38,7 @@ decode_dead k ρ σ c = find (2 * k) (if_near_dead k ρ σ c)
 module _ (k ρ σ : ℕ) (c : List ℕ) where
   pub near_dead_checks : Checks (NearDead k ρ σ c) (if_near_dead k ρ σ c)
   unfolding if_near_dead is_near_dead
-  near_dead_checks = test-checks (NearDead k ρ σ c) (is_near_dead k ρ σ c)
+  near_dead_checks = test_checks (NearDead k ρ σ c) (is_near_dead k ρ σ c)
       (λ m e. let h = both (is_message k m) _ e in record { message = h.0; within = leb-true _ _ h.1 })
       (λ m h. rw (h.message, le-leb (2 * live_rank ρ σ (word k m) c + dead_lines ρ + dead_lines σ) (6 - k) h.within))
 
@@ -47,7 +47,7 @@ module _ (k ρ σ : ℕ) (c : List ℕ) where
   decode_dead_answers = find_answers near_dead_checks k (λ m h. h.message)
 
   pub decode_dead_none : (decode_dead k ρ σ c ≡ none) ↔ ((m : List ℕ) → NearDead k ρ σ c m → ⊥)
-  decode_dead_none = (answer-none decode_dead_answers, none-answer decode_dead_answers)
+  decode_dead_none = (answer_none decode_dead_answers, none_answer decode_dead_answers)
 
 module _ (k : ℕ) (p : 1 ≤ k) (q : k ≤ 5) (ρ σ : ℕ) (c : List ℕ) (card : is_card c ≡ true) where
   near_one : (m n : List ℕ) → NearDead k ρ σ c m → NearDead k ρ σ c n → m ≡ n
@@ -55,7 +55,7 @@ module _ (k : ℕ) (p : 1 ≤ k) (q : k ≤ 5) (ρ σ : ℕ) (c : List ℕ) (car
   near_one m n = one_near_dead k ρ σ c m n p q card
 
   pub decoded_dead : (m : List ℕ) → (decode_dead k ρ σ c ≡ some m) ↔ NearDead k ρ σ c m
-  decoded_dead m = (answer-holds (decode_dead_answers k ρ σ c), one_answer near_one (decode_dead_answers k ρ σ c))
+  decoded_dead m = (answer_holds (decode_dead_answers k ρ σ c), one_answer near_one (decode_dead_answers k ρ σ c))
 
   pub answered_dead : (o : Option (List ℕ)) → Answers (NearDead k ρ σ c) o → o ≡ decode_dead k ρ σ c
   answered_dead o a = same_answer near_one o (decode_dead k ρ σ c) a (decode_dead_answers k ρ σ c)

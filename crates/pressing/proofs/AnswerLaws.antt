@@ -1,5 +1,5 @@
 -- What a caller learns from an answer that is no refusal: the lists begin with book and line.
--- Main: book_within, line-within, book-front, line-front.
+-- Main: book_within, line_within, book_front, line_front.
 use Rattle.std.specs.Prelude.{◌≡◌, List, ℕ, ◌≤◌, length, take}
 use Rattle.std.proofs.Common.{◌∙◌}
 use Rattle.refusal.specs.Replies.{reply_value, unless}
@@ -26,11 +26,11 @@ module _ {t n c s b l n-now c-now s-now b-now l-now : List ℕ} {r : Pressed} (g
   pub book_within : z.book ≤ longest_book
   book_within = rw answered.1 (pressed_within t)
 
-  pub line-within : z.line ≤ longest_line
-  line-within = rw answered.1 (said_within t)
+  pub line_within : z.line ≤ longest_line
+  line_within = rw answered.1 (said_within t)
 
-  pub book-front : take z.book b-now ≡ pressed t
-  book-front = front (lent_refusal n c s b l) (pressed t) b b-now z.book answered.0 (rw answered.1) g.book_is
+  pub book_front : take z.book b-now ≡ pressed t
+  book_front = front (lent_refusal n c s b l) (pressed t) b b-now z.book answered.0 (rw answered.1) g.book_is
 
-  pub line-front : take z.line l-now ≡ said t
-  line-front = front (lent_refusal n c s b l) (said t) l l-now z.line answered.0 (rw answered.1) g.line_is
+  pub line_front : take z.line l-now ≡ said t
+  line_front = front (lent_refusal n c s b l) (said t) l l-now z.line answered.0 (rw answered.1) g.line_is

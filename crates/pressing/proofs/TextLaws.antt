@@ -26,7 +26,7 @@ use Rattle.tune_text.specs.declared.tunes.Tunes.TheVariants as tunes
 use Rattle.tune_text.specs.Reading.{lines_said, mistake_of, longest_text, too_short, checked, tunes_of}
 use Rattle.tune_text.specs.MistakeLines.{longest_line, mistake_line, too_long_line, mistake_line_within}
 use Rattle.tune_text.specs.Answers.{ReadSo}
-use Rattle.tune_text.proofs.AnswerLaws.{wrong-line, read-so, counts-size, read-front}
+use Rattle.tune_text.proofs.AnswerLaws.{wrong_line, read_so, counts_size, read_front}
 use Rattle.pressing.specs.declared.lists.Lengths.{Lengths}
 use Rattle.pressing.specs.declared.texts.Pressed.TheVariants.{Texts, Refused}
 use Rattle.pressing.specs.Pressing.{text_numbers, text_counts, text_strikes, press_refusal, refusal_line, mistake_or, said, pressed}
@@ -35,7 +35,7 @@ use Rattle.pressing.specs.Lists.{BothWrote, lists_book, lists_line, ListsWrote}
 use Rattle.pressing.specs.Texts.{ListsRead, Enough}
 
 pub sizes_so : {t n c s : List ℕ} {r : Tunes} → r ≡ tunes_of t n c s → {z : Sizes} → r ≡ tunes.Read z → ReadSo t n c s z
-sizes_so {t} {n} {c} {s} e {z} p = read-so t n c s z (sym e ∙ p)
+sizes_so {t} {n} {c} {s} e {z} p = read_so t n c s z (sym e ∙ p)
 
 pub enough : (n c s b l : List ℕ) (short : Bool) → short ≡ lengths_short (length n) (length c) (length s) (length b) (length l) → short ≡ false
     → Enough n c s b l
@@ -120,7 +120,7 @@ module _ (t n c s b l : List ℕ) (h : Enough n c s b l) where
 
     -- there is room for the line of a mistake
     pub wrong_room : (m : Mistake) → r ≡ tunes.Wrong m → length (mistake_line m) ≤ length l
-    wrong_room m p = omega (arith, mistake_line_within m (wrong-line t n c s m (sym e ∙ p)), h.line)
+    wrong_room m p = omega (arith, mistake_line_within m (wrong_line t n c s m (sym e ∙ p)), h.line)
 
 -- BOOK AND LINE. The line of a mistake is not empty
 pub mistake_some : (m : Mistake) → 1 ≤ length (mistake_line m)
@@ -156,13 +156,13 @@ module _ {t n c s n-now c-now s-now : List ℕ} (g : ListsRead t n c s n-now c-n
 
   -- a list begins with what was read
   numbers_front : take z.tunes n-now ≡ text_numbers t
-  numbers_front = rw so.tunes (read-front (tunes_of t n c s) z n (text_numbers t) n-now (sym e ∙ p) g.numbers_are)
+  numbers_front = rw so.tunes (read_front (tunes_of t n c s) z n (text_numbers t) n-now (sym e ∙ p) g.numbers_are)
 
   counts_front : take z.tunes c-now ≡ text_counts t
-  counts_front = rw (counts-size so) (read-front (tunes_of t n c s) z c (text_counts t) c-now (sym e ∙ p) g.counts_are)
+  counts_front = rw (counts_size so) (read_front (tunes_of t n c s) z c (text_counts t) c-now (sym e ∙ p) g.counts_are)
 
   strikes_front : take z.strikes s-now ≡ text_strikes t
-  strikes_front = rw so.strikes (read-front (tunes_of t n c s) z s (text_strikes t) s-now (sym e ∙ p) g.strikes_are)
+  strikes_front = rw so.strikes (read_front (tunes_of t n c s) z s (text_strikes t) s-now (sym e ∙ p) g.strikes_are)
 
   pub lists_both : {b l b-now l-now : List ℕ} {k : Lengths} → said t ≡ lists_line (text_numbers t) (text_counts t) (text_strikes t)
       → ListsWrote (take z.tunes n-now) (take z.tunes c-now) (take z.strikes s-now) b l k b-now l-now

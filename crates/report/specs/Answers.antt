@@ -1,5 +1,5 @@
 -- What a report is, by what Open says of the book; and what a caller learns from the answer.
--- Main: report-accepted, empty-reported, opened-refused; kind-listing, kind-wear; answer-within, answer-reported, report-read.
+-- Main: report_accepted, empty_reported, opened_refused; kind_listing, kind_wear; answer_within, answer_reported, report_read.
 use Rattle.std.specs.Prelude.{◌≡◌, refl, ℕ, ◌≤◌, ◌<◌, length, take}
 use Rattle.std.proofs.Common.{sym, ◌∙◌, arith, length-take, take_all}
 use Rattle.std.proofs.Math.Path.{ap}
@@ -25,44 +25,44 @@ use Rattle.report.specs.Reports.{tune_report, report, longest}
 use Rattle.report.specs.Sizes.{report_within}
 
 -- THE TWO KINDS
-pub kind-listing : (k : Kind) (bs : List ℕ) (e : ℕ) → k ≡ Listing → tune_report k bs e ≡ tune_text bs e
+pub kind_listing : (k : Kind) (bs : List ℕ) (e : ℕ) → k ≡ Listing → tune_report k bs e ≡ tune_text bs e
 unfolding tune_report
-kind-listing k bs e p = rw p
+kind_listing k bs e p = rw p
 
-pub kind-wear : (k : Kind) (bs : List ℕ) (e : ℕ) → k ≡ Wear → tune_report k bs e ≡ wear_line bs e
+pub kind_wear : (k : Kind) (bs : List ℕ) (e : ℕ) → k ≡ Wear → tune_report k bs e ≡ wear_line bs e
 unfolding tune_report
-kind-wear k bs e p = rw p
+kind_wear k bs e p = rw p
 
 module _ (k : Kind) where
   -- THE REPORT on a book that Open accepts, and on one that it refuses
-  pub report-accepted : (bs : List ℕ) → Accepted bs → report k bs ≡ joined (tune_report k bs) (tunes bs)
+  pub report_accepted : (bs : List ℕ) → Accepted bs → report k bs ≡ joined (tune_report k bs) (tunes bs)
   unfolding report
-  report-accepted bs a = rw (eq-eqb (open_refusal bs) 0 a)
+  report_accepted bs a = rw (eq-eqb (open_refusal bs) 0 a)
 
-  report-refused : (bs : List ℕ) → (Accepted bs → ⊥) → report k bs ≡ book_refused (open_refusal bs)
+  report_refused : (bs : List ℕ) → (Accepted bs → ⊥) → report k bs ≡ book_refused (open_refusal bs)
   unfolding report
-  report-refused bs n = rw (ne_eqb (open_refusal bs) 0 n)
+  report_refused bs n = rw (ne_eqb (open_refusal bs) 0 n)
 
   -- so of the empty file there is nothing to report
-  pub empty-reported : report k [] ≡ []
+  pub empty_reported : report k [] ≡ []
   unfolding joined
-  empty-reported = report-accepted [] (empty_accepted [] refl) ∙ ap (joined (tune_report k [])) (empty_tunes [] refl)
+  empty_reported = report_accepted [] (empty_accepted [] refl) ∙ ap (joined (tune_report k [])) (empty_tunes [] refl)
 
   -- what Open answered decides
-  pub opened-refused : (r : Answer) (why : Refusal) (m : ℕ) (bs : List ℕ) → r ≡ answers.Refused why
+  pub opened_refused : (r : Answer) (why : Refusal) (m : ℕ) (bs : List ℕ) → r ≡ answers.Refused why
       → reply r ≡ reply_with 0 (open_refusal bs) (tunes bs) → m ≡ number why → report k bs ≡ book_refused m
-  opened-refused r why m bs p e f =
+  opened_refused r why m bs p e f =
       let t = answer_refused r why (open_refusal bs) (tunes bs) p e in
-      report-refused bs t.1 ∙ ap book_refused (sym t.0 ∙ sym f)
+      report_refused bs t.1 ∙ ap book_refused (sym t.0 ∙ sym f)
 
   -- THE ANSWER: as many bytes at the beginning of the text are the report, and they are within it
   module _ (bs text : List ℕ) (r : Answer) (x : ℕ) (p : r ≡ answers.Value x) (a : reply r ≡ reply_with 0 (room_refusal longest text) (length (report k bs))) where
-    pub answer-within : x ≤ longest
-    answer-within = omega (arith, report_within k bs, (answer_value r x (room_refusal longest text) (length (report k bs)) p a).1)
+    pub answer_within : x ≤ longest
+    answer_within = omega (arith, report_within k bs, (answer_value r x (room_refusal longest text) (length (report k bs)) p a).1)
 
-    pub answer-reported : (new : List ℕ) → new ≡ unless (room_refusal longest text) (written text 0 (report k bs)) text → take x new ≡ report k bs
+    pub answer_reported : (new : List ℕ) → new ≡ unless (room_refusal longest text) (written text 0 (report k bs)) text → take x new ≡ report k bs
     unfolding unless
-    answer-reported new e =
+    answer_reported new e =
         let t = answer_value r x (room_refusal longest text) (length (report k bs)) p a in
         rw (e, t.0, t.1) (written_front text (report k bs))
 
@@ -71,8 +71,8 @@ module _ (k : Kind) where
   unfolding report contents_refusal size_bad
   too_long bs h = rw (some_tested bs (omega arith), lt-ltb longest_book (length bs) h)
 
-  pub report-read : (n : ℕ) (bs : List ℕ) → longest_book < n → report k (take n bs) ≡ report k bs
-  report-read n bs h = go (dec_lt longest_book (length bs))
+  pub report_read : (n : ℕ) (bs : List ℕ) → longest_book < n → report k (take n bs) ≡ report k bs
+  report_read n bs h = go (dec_lt longest_book (length bs))
     where
       go : Dec (longest_book < length bs) → report k (take n bs) ≡ report k bs
       go (no m) = ap (report k) (take_all n bs (omega arith))

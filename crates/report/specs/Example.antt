@@ -22,7 +22,7 @@ use Rattle.text.specs.Text.{ascii, decimal_from, decimal, spaced, word_line, joi
 use Rattle.listing.specs.Listing.{strike_line, refused_line, card_line, card_lines, tune_line, ticks_line, body_text, tune_text}
 use Rattle.report.specs.declared.Kind.TheVariants.{Listing}
 use Rattle.report.specs.Reports.{tune_report, report}
-use Rattle.report.specs.Answers.{report-accepted}
+use Rattle.report.specs.Answers.{report_accepted}
 
 -- cards 1 3 9 27 81 243; 3 279 233 650 423 163; 2 3 9 27 81 243; 729 3 9 27 81 243
 abbrev pub body : List ℕ
@@ -139,4 +139,4 @@ first_line = refl
 
 -- THE LISTING is the text of the example
 pub example_listed : report Listing example ≡ example_text
-example_listed = report-accepted Listing example accepted ∙ one_tune ∙ rw (its_part, body_listed, first_line)
+example_listed = report_accepted Listing example accepted ∙ one_tune ∙ rw (its_part, body_listed, first_line)

@@ -9,7 +9,7 @@ use Rattle.text.specs.Text.{ascii, decimal_from, decimal, joined}
 use Rattle.wear_lines.specs.WearLines.{short_line, wear_line}
 use Rattle.report.specs.declared.Kind.TheVariants.{Wear}
 use Rattle.report.specs.Reports.{tune_report, report}
-use Rattle.report.specs.Answers.{report-accepted}
+use Rattle.report.specs.Answers.{report_accepted}
 use Rattle.report.specs.Example.{body, example, read_first, read_second, read_third, read_fourth, accepted}
 
 -- its four cards wear by 0, 0, 1 and 3
@@ -36,4 +36,4 @@ unfolding joined tune_report wear_line short_line decimal decimal_from big
 one_line = refl
 
 pub example_worn : report Wear example ≡ ascii "7 short\n"
-example_worn = report-accepted Wear example accepted ∙ one_line
+example_worn = report_accepted Wear example accepted ∙ one_line

@@ -1,5 +1,5 @@
 -- The answer of the operation: how each comes about, and what a caller learns from it.
--- Main: answer-long, answer-short, numbers-short, counts-short, answer-wrong, read-so, tunes-room, strikes-room, counts-size, read-front.
+-- Main: answer_long, answer_short, numbers_short, counts_short, answer_wrong, read_so, tunes_room, strikes_room, counts_size, read_front.
 use Rattle.std.specs.Prelude.{◌≡◌, refl, Bool, true, false, cond, List, ℕ, ◌≤◌, ◌<◌, ltb, length, take}
 use Rattle.std.proofs.Math.Path.{sym}
 use Rattle.std.proofs.Common.{ap, ◌∙◌, arith}
@@ -22,30 +22,30 @@ use Rattle.tune_text.specs.Answers.{Tested, ReadSo}
 
 -- A LIST IS TOO SHORT
 module _ (t n c s : List ℕ) where
-  pub numbers-short : length n < length t → too_short t n c s ≡ true
+  pub numbers_short : length n < length t → too_short t n c s ≡ true
   unfolding too_short
-  numbers-short h = rw (lt-ltb (length n) (length t) h)
+  numbers_short h = rw (lt-ltb (length n) (length t) h)
 
-  pub counts-short : length c < length t → too_short t n c s ≡ true
+  pub counts_short : length c < length t → too_short t n c s ≡ true
   unfolding too_short
-  counts-short h = rw (lt-ltb (length c) (length t) h, or-true (ltb (length n) (length t)))
+  counts_short h = rw (lt-ltb (length c) (length t) h, or-true (ltb (length n) (length t)))
 
-  pub strikes-short : length s < length t → too_short t n c s ≡ true
+  pub strikes_short : length s < length t → too_short t n c s ≡ true
   unfolding too_short
-  strikes-short h = rw (lt-ltb (length s) (length t) h, or-true (ltb (length c) (length t)), or-true (ltb (length n) (length t)))
+  strikes_short h = rw (lt-ltb (length s) (length t) h, or-true (ltb (length c) (length t)), or-true (ltb (length n) (length t)))
 
   -- THE ANSWERS
-  pub answer-long : longest_text < length t → TooLong ≡ tunes_of t n c s
+  pub answer_long : longest_text < length t → TooLong ≡ tunes_of t n c s
   unfolding tunes_of
-  answer-long h = rw (lt-ltb longest_text (length t) h)
+  answer_long h = rw (lt-ltb longest_text (length t) h)
 
-  pub answer-short : length t ≤ longest_text → too_short t n c s ≡ true → Refused Length ≡ tunes_of t n c s
+  pub answer_short : length t ≤ longest_text → too_short t n c s ≡ true → Refused Length ≡ tunes_of t n c s
   unfolding tunes_of
-  answer-short h e = rw (le-ltb longest_text (length t) h, e)
+  answer_short h e = rw (le-ltb longest_text (length t) h, e)
 
-  answer-tested : Tested t n c s → checked (lines_said t) (mistake_of (lines_said t)) ≡ tunes_of t n c s
+  answer_tested : Tested t n c s → checked (lines_said t) (mistake_of (lines_said t)) ≡ tunes_of t n c s
   unfolding tunes_of too_short
-  answer-tested h =
+  answer_tested h =
       rw (
         le-ltb longest_text (length t) h.text,
         le-ltb (length n) (length t) h.numbers,
@@ -53,36 +53,36 @@ module _ (t n c s : List ℕ) where
         le-ltb (length s) (length t) h.strikes,
       )
 
-  pub answer-wrong : (m : Mistake) → Tested t n c s → mistake_of (lines_said t) ≡ check.Wrong m → Wrong m ≡ tunes_of t n c s
+  pub answer_wrong : (m : Mistake) → Tested t n c s → mistake_of (lines_said t) ≡ check.Wrong m → Wrong m ≡ tunes_of t n c s
   unfolding checked
-  answer-wrong m h e = sym (ap (checked (lines_said t)) e) ∙ answer-tested h
+  answer_wrong m h e = sym (ap (checked (lines_said t)) e) ∙ answer_tested h
 
-  pub answer-read : (z : Sizes) → Tested t n c s → mistake_of (lines_said t) ≡ check.Fine
+  pub answer_read : (z : Sizes) → Tested t n c s → mistake_of (lines_said t) ≡ check.Fine
       → z.tunes ≡ length (numbers_of (lines_said t)) → z.strikes ≡ length (strikes_of (lines_said t)) → Read z ≡ tunes_of t n c s
   unfolding checked
-  answer-read z h e p q = rw (p, q) (sym (ap (checked (lines_said t)) e) ∙ answer-tested h)
+  answer_read z h e p q = rw (p, q) (sym (ap (checked (lines_said t)) e) ∙ answer_tested h)
 
 -- WHAT A CALLER LEARNS from an answer that is not the first of two
 not_first : {A : Type 0} (b : Bool) (x y z : A) → (z ≡ x → ⊥) → cond b x y ≡ z → (b ≡ false) × (y ≡ z)
 not_first true x y z n e = absurd (n (sym e))
 not_first false x y z n e = (refl, e)
 
-checked-wrong : (ls : List Line) (k : Check) (m : Mistake) → checked ls k ≡ Wrong m → k ≡ check.Wrong m
+checked_wrong : (ls : List Line) (k : Check) (m : Mistake) → checked ls k ≡ Wrong m → k ≡ check.Wrong m
 unfolding checked
-checked-wrong ls check.Fine m e = absurd (let z : ◌≡◌ {A = ℕ} 0 1 = cc in omega arith)
-checked-wrong ls (check.Wrong k) m e = let q : k ≡ m = cc in ap check.Wrong q
+checked_wrong ls check.Fine m e = absurd (let z : ◌≡◌ {A = ℕ} 0 1 = cc in omega arith)
+checked_wrong ls (check.Wrong k) m e = let q : k ≡ m = cc in ap check.Wrong q
 
-checked-read : (ls : List Line) (k : Check) (z : Sizes) → checked ls k ≡ Read z
+checked_read : (ls : List Line) (k : Check) (z : Sizes) → checked ls k ≡ Read z
     → (k ≡ check.Fine) × (z.tunes ≡ length (numbers_of ls)) × (z.strikes ≡ length (strikes_of ls))
 unfolding checked
-checked-read ls check.Fine z e = (refl, cc, cc)
-checked-read ls (check.Wrong k) z e = absurd (let z : ◌≡◌ {A = ℕ} 0 1 = cc in omega arith)
+checked_read ls check.Fine z e = (refl, cc, cc)
+checked_read ls (check.Wrong k) z e = absurd (let z : ◌≡◌ {A = ℕ} 0 1 = cc in omega arith)
 
 module _ (t n c s : List ℕ) where
-  tested-of : (r : Tunes) → (r ≡ TooLong → ⊥) → (r ≡ Refused Length → ⊥) → tunes_of t n c s ≡ r
+  tested_of : (r : Tunes) → (r ≡ TooLong → ⊥) → (r ≡ Refused Length → ⊥) → tunes_of t n c s ≡ r
       → Tested t n c s × (checked (lines_said t) (mistake_of (lines_said t)) ≡ r)
   unfolding tunes_of too_short
-  tested-of r p q e =
+  tested_of r p q e =
       let a = not_first (ltb longest_text (length t)) TooLong _ r p e in
       let b = not_first (too_short t n c s) (Refused Length) _ r q a.1 in
       let k = neither (ltb (length n) (length t)) _ b.0 in
@@ -97,28 +97,28 @@ module _ (t n c s : List ℕ) where
       )
 
   -- a mistake is on a line of a small number
-  pub wrong-line : (m : Mistake) → tunes_of t n c s ≡ Wrong m → m.line ≤ longest_text
-  wrong-line m e =
-      let g = tested-of (Wrong m) (λ p. let z : ◌≡◌ {A = ℕ} 0 1 = cc in omega arith) (λ p. let z : ◌≡◌ {A = ℕ} 0 1 = cc in omega arith) e in
-      omega (arith, mistake_within t m (checked-wrong (lines_said t) (mistake_of (lines_said t)) m g.1), g.0.text)
+  pub wrong_line : (m : Mistake) → tunes_of t n c s ≡ Wrong m → m.line ≤ longest_text
+  wrong_line m e =
+      let g = tested_of (Wrong m) (λ p. let z : ◌≡◌ {A = ℕ} 0 1 = cc in omega arith) (λ p. let z : ◌≡◌ {A = ℕ} 0 1 = cc in omega arith) e in
+      omega (arith, mistake_within t m (checked_wrong (lines_said t) (mistake_of (lines_said t)) m g.1), g.0.text)
 
-  pub read-so : (z : Sizes) → tunes_of t n c s ≡ Read z → ReadSo t n c s z
-  read-so z e =
-      let g = tested-of (Read z) (λ p. let z : ◌≡◌ {A = ℕ} 0 1 = cc in omega arith) (λ p. let z : ◌≡◌ {A = ℕ} 0 1 = cc in omega arith) e in
-      let k = checked-read (lines_said t) (mistake_of (lines_said t)) z g.1 in
+  pub read_so : (z : Sizes) → tunes_of t n c s ≡ Read z → ReadSo t n c s z
+  read_so z e =
+      let g = tested_of (Read z) (λ p. let z : ◌≡◌ {A = ℕ} 0 1 = cc in omega arith) (λ p. let z : ◌≡◌ {A = ℕ} 0 1 = cc in omega arith) e in
+      let k = checked_read (lines_said t) (mistake_of (lines_said t)) z g.1 in
       record { tested = g.0; fine = k.0; tunes = k.1; strikes = k.2 }
 
 -- the sizes are within the lists, and there is a count for each tune
 module _ {t n c s : List ℕ} {z : Sizes} (r : ReadSo t n c s z) where
-  pub tunes-room : (z.tunes ≤ length n) × (z.tunes ≤ length c)
-  tunes-room = let h = r.tested in let k = numbers_within t in (omega (arith, r.tunes, h.numbers), omega (arith, r.tunes, h.counts))
+  pub tunes_room : (z.tunes ≤ length n) × (z.tunes ≤ length c)
+  tunes_room = let h = r.tested in let k = numbers_within t in (omega (arith, r.tunes, h.numbers), omega (arith, r.tunes, h.counts))
 
-  pub strikes-room : z.strikes ≤ length s
-  strikes-room = let h = r.tested in omega (arith, r.strikes, h.strikes, strikes_within t)
+  pub strikes_room : z.strikes ≤ length s
+  strikes_room = let h = r.tested in omega (arith, r.strikes, h.strikes, strikes_within t)
 
-  pub counts-size : z.tunes ≡ length (counts_of (lines_said t))
-  counts-size = r.tunes ∙ sym (counts_length (lines_said t))
+  pub counts_size : z.tunes ≡ length (counts_of (lines_said t))
+  counts_size = r.tunes ∙ sym (counts_length (lines_said t))
 
 -- a lent list begins with what was read
-pub read-front : (r : Tunes) (z : Sizes) (old new now : List ℕ) → r ≡ Read z → now ≡ when_read r old new → take (length new) now ≡ new
-read-front r z old new now p e = let w : now ≡ when_read (Read z) old new = rw p at e in rw w (written_front old new)
+pub read_front : (r : Tunes) (z : Sizes) (old new now : List ℕ) → r ≡ Read z → now ≡ when_read r old new → take (length new) now ≡ new
+read_front r z old new now p e = let w : now ≡ when_read (Read z) old new = rw p at e in rw w (written_front old new)

@@ -8,7 +8,7 @@ use Rattle.book.specs.Accepted.{Accepted}
 use Rattle.refusal.specs.Replies.{answer_value}
 use Rattle.text.specs.Text.{book_refused}
 use Rattle.report.specs.Reports.{report}
-use Rattle.report.specs.Answers.{report-accepted, opened-refused}
+use Rattle.report.specs.Answers.{report_accepted, opened_refused}
 use Rattle.report.proofs.write_all.Goals as goal
 use Rattle.report.proofs.write_all.Goals.{After-number, In-Value}
 
@@ -16,7 +16,7 @@ use Rattle.report.proofs.write_all.Goals.{After-number, In-Value}
 refused : (c : After-number) →
     report c.args.kind c.args.book.now ≡ book_refused c.number.result
 refused c =
-    opened-refused _ _ _ _ _ c.in-Refused.is c.«open».ensures c.number.ensures
+    opened_refused _ _ _ _ _ c.in-Refused.is c.«open».ensures c.number.ensures
 
 -- the book was accepted: the report is that of its tunes
 opened : (c : In-Value) →
@@ -26,12 +26,12 @@ opened c = answer_value _ _ _ _ c.in-Value.is c.«open».ensures
 pub write_tunes-requires : goal.write_tunes-requires
 write_tunes-requires c =
     let o = opened (goal.at.write_tunes-requires c).In-Value in
-    record { accepted = o.0; count_value = o.1; book_in_bounds = omega (arith, ap length (report-accepted c.args.kind c.args.book.now o.0)) }
+    record { accepted = o.0; count_value = o.1; book_in_bounds = omega (arith, ap length (report_accepted c.args.kind c.args.book.now o.0)) }
 
 pub returns-in-Value : goal.returns-in-Value
 returns-in-Value c =
     let o = opened (goal.at.returns-in-Value c).In-Value in
-    rw (report-accepted _ _ o.0) c.write_tunes.ensures
+    rw (report_accepted _ _ o.0) c.write_tunes.ensures
 
 pub write_book_refused-requires : goal.write_book_refused-requires
 write_book_refused-requires c = omega (arith, ap length (refused (goal.at.write_book_refused-requires c).After-number))

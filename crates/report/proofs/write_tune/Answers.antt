@@ -3,21 +3,21 @@ use mathlib.Core.Path.{ap}
 use native.Mathlib.Omega.{arith}
 use lib.ListN.{length}
 use borrow.Author.Rules.{rules}
-use Rattle.report.specs.Answers.{kind-listing, kind-wear}
+use Rattle.report.specs.Answers.{kind_listing, kind_wear}
 use Rattle.report.proofs.write_tune.Goals as goal
 
 pub write_tune-requires : goal.write_tune-requires
 write_tune-requires c =
-    record { accepted_entry = c.requires.accepted_entry; e_in_bounds = omega (arith, c.requires.e_in_bounds, ap length (kind-listing _ c.args.book.now c.args.e c.in-Listing.is)) }
+    record { accepted_entry = c.requires.accepted_entry; e_in_bounds = omega (arith, c.requires.e_in_bounds, ap length (kind_listing _ c.args.book.now c.args.e c.in-Listing.is)) }
 
 pub write_tune-requires-in-Wear : goal.write_tune-requires-in-Wear
 write_tune-requires-in-Wear c =
-    record { accepted_entry = c.requires.accepted_entry; e_in_bounds = omega (arith, c.requires.e_in_bounds, ap length (kind-wear _ c.args.book.now c.args.e c.in-Wear.is)) }
+    record { accepted_entry = c.requires.accepted_entry; e_in_bounds = omega (arith, c.requires.e_in_bounds, ap length (kind_wear _ c.args.book.now c.args.e c.in-Wear.is)) }
 
 pub returns-in-Listing : goal.returns-in-Listing
 returns-in-Listing c =
-    rw (kind-listing _ _ _ c.in-Listing.is) c.write_tune.ensures
+    rw (kind_listing _ _ _ c.in-Listing.is) c.write_tune.ensures
 
 pub returns-in-Wear : goal.returns-in-Wear
 returns-in-Wear c =
-    rw (kind-wear _ _ _ c.in-Wear.is) c.write_tune-in-Wear.ensures
+    rw (kind_wear _ _ _ c.in-Wear.is) c.write_tune-in-Wear.ensures

@@ -11,13 +11,13 @@ use Rattle.candidate.specs.Finding.{found_message, message_none, matches_none, n
 use Rattle.candidate.proofs.found.near.Goals as goal
 
 -- the rank of a weight, where the symbols weighed are a difference
-weight-at : {w : Weight} {c d : List ℕ} → w ≡ weight_of c → c ≡ d → w.rank ≡ rank d
-weight-at e f = ap (λ (w : Weight). w.rank) e ∙ weight_rank _ ∙ ap rank f
+weight_at : {w : Weight} {c d : List ℕ} → w ≡ weight_of c → c ≡ d → w.rank ≡ rank d
+weight_at e f = ap (λ (w : Weight). w.rank) e ∙ weight_rank _ ∙ ap rank f
 
 pub returns-then-k-weight : goal.returns-then-k-weight
 unfolding apart
 returns-then-k-weight c =
-    let far = weight-at c.weight_of-weight.ensures (c.difference.ensures ∙ ap (λ (w : List ℕ). difference w c.args.card) c.word_of-word.ensures) in (
+    let far = weight_at c.weight_of-weight.ensures (c.difference.ensures ∙ ap (λ (w : List ℕ). difference w c.args.card) c.word_of-word.ensures) in (
       message_none c.args.k _ c.nothing.ensures
           ∙ sym (near_none c.args.k c.args.card (take (2 * c.args.k) c.args.message) (rw far at c.if-k-weight.true) c.requires.2),
       matches_none c.args.k _ _ c.nothing.ensures,
@@ -26,7 +26,7 @@ returns-then-k-weight c =
 pub returns : goal.returns
 unfolding apart found_message
 returns c =
-    let near = weight-at c.weight_of-weight.ensures (c.difference.ensures ∙ ap (λ (w : List ℕ). difference w c.args.card) c.word_of-word.ensures) in (
+    let near = weight_at c.weight_of-weight.ensures (c.difference.ensures ∙ ap (λ (w : List ℕ). difference w c.args.card) c.word_of-word.ensures) in (
       sym (near_some c.args.k c.args.card (take (2 * c.args.k) c.args.message) c.requires.2 (rw near at c.if-k-weight.false)),
       record { word_is = λ t. c.word_of-word.ensures; weight_is = λ t. c.weight_of-weight.ensures ∙ ap weight_of c.difference.ensures },
     )

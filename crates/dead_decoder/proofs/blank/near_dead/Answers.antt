@@ -13,14 +13,14 @@ use Rattle.dead_decoder.specs.Checking.{near_dead_some, near_dead_none}
 use Rattle.dead_decoder.proofs.blank.near_dead.Goals as goal
 
 -- the rank of a weight, where the symbols weighed are what is left of a difference
-rank-at : (ρ σ : ℕ) (card : List ℕ) {w : Weight} {b d o p : List ℕ} → w ≡ weight_of b → b ≡ blanked ρ σ d → d ≡ difference o card → o ≡ p
+rank_at : (ρ σ : ℕ) (card : List ℕ) {w : Weight} {b d o p : List ℕ} → w ≡ weight_of b → b ≡ blanked ρ σ d → d ≡ difference o card → o ≡ p
     → w.rank ≡ rank (blanked ρ σ (difference p card))
-rank-at ρ σ card e f g h =
+rank_at ρ σ card e f g h =
     ap (λ (w : Weight). w.rank) e ∙ weight_rank _ ∙ ap rank (f ∙ ap (blanked ρ σ) (g ∙ ap (λ (o : List ℕ). difference o card) h))
 
 pub returns-then-k-spent : goal.returns-then-k-spent
 returns-then-k-spent c =
-    let far = rank-at c.args.rows c.args.columns c.args.card c.weight_of-weight.ensures c.blanked.ensures c.difference.ensures c.word_of-word.ensures in (
+    let far = rank_at c.args.rows c.args.columns c.args.card c.weight_of-weight.ensures c.blanked.ensures c.difference.ensures c.word_of-word.ensures in (
       message_none c.args.k _ c.nothing.ensures
           ∙ sym (near_dead_none c.args.k c.args.rows c.args.columns c.args.card (take (2 * c.args.k) c.args.message)
           (rw (far, c.line_count.ensures.0, c.line_count-2.ensures.0) at c.if-k-spent.true) c.requires.2),
@@ -30,7 +30,7 @@ returns-then-k-spent c =
 pub returns : goal.returns
 unfolding found_message
 returns c =
-    let near = rank-at c.args.rows c.args.columns c.args.card c.weight_of-weight.ensures c.blanked.ensures c.difference.ensures c.word_of-word.ensures in (
+    let near = rank_at c.args.rows c.args.columns c.args.card c.weight_of-weight.ensures c.blanked.ensures c.difference.ensures c.word_of-word.ensures in (
       sym (near_dead_some c.args.k c.args.rows c.args.columns c.args.card (take (2 * c.args.k) c.args.message) c.requires.2
           (rw (near, c.line_count.ensures.0, c.line_count-2.ensures.0) at c.if-k-spent.false)),
       record {

@@ -3,7 +3,7 @@ use mathlib.Core.Path.{sym}
 use native.Mathlib.Omega.{arith}
 use borrow.Author.Rules.{rules}
 use lib.Seq.{length-take-le}
-use Rattle.tune_text.proofs.AnswerLaws.{tunes-room, strikes-room}
+use Rattle.tune_text.proofs.AnswerLaws.{tunes_room, strikes_room}
 use Rattle.pressing.specs.Texts.{ListsRead}
 use Rattle.pressing.proofs.TextLaws.{sizes_so, said_long, said_wrong, said_read, never_refused, wrong_room}
 use Rattle.pressing.proofs.TextLaws.{mistake_some, line_only, lists_both}
@@ -24,17 +24,17 @@ write_mistake-requires c =
 pub slice_bounds-press_lists-end : goal.slice_bounds-press_lists-end
 slice_bounds-press_lists-end c =
     let q = sizes_so c.read_tunes.ensures.value c.in-Read.is in
-    omega (arith, (tunes-room q).0)
+    omega (arith, (tunes_room q).0)
 
 pub slice_bounds-press_lists-end-in-Read-2 : goal.slice_bounds-press_lists-end-in-Read-2
 slice_bounds-press_lists-end-in-Read-2 c =
     let q = sizes_so c.read_tunes.ensures.value c.in-Read.is in
-    omega (arith, (tunes-room q).1)
+    omega (arith, (tunes_room q).1)
 
 pub slice_bounds-press_lists-end-in-Read-4 : goal.slice_bounds-press_lists-end-in-Read-4
 slice_bounds-press_lists-end-in-Read-4 c =
     let q = sizes_so c.read_tunes.ensures.value c.in-Read.is in
-    omega (arith, strikes-room q)
+    omega (arith, strikes_room q)
 
 -- too long, refused (which is never so), wrong, read
 pub returns-in-TooLong : goal.returns-in-TooLong
@@ -60,14 +60,14 @@ returns-in-Read c =
 pub slice_bounds-press_lists-end-in-Read : goal.slice_bounds-press_lists-end-in-Read
 slice_bounds-press_lists-end-in-Read c =
     let q = sizes_so c.read_tunes.ensures.value c.in-Read.is in
-    sym (length-take-le _ _ (omega (arith, (tunes-room q).0)))
+    sym (length-take-le _ _ (omega (arith, (tunes_room q).0)))
 
 pub slice_bounds-press_lists-end-in-Read-3 : goal.slice_bounds-press_lists-end-in-Read-3
 slice_bounds-press_lists-end-in-Read-3 c =
     let q = sizes_so c.read_tunes.ensures.value c.in-Read.is in
-    sym (length-take-le _ _ (omega (arith, (tunes-room q).1)))
+    sym (length-take-le _ _ (omega (arith, (tunes_room q).1)))
 
 pub slice_bounds-press_lists-end-in-Read-5 : goal.slice_bounds-press_lists-end-in-Read-5
 slice_bounds-press_lists-end-in-Read-5 c =
     let q = sizes_so c.read_tunes.ensures.value c.in-Read.is in
-    sym (length-take-le _ _ (omega (arith, strikes-room q)))
+    sym (length-take-le _ _ (omega (arith, strikes_room q)))

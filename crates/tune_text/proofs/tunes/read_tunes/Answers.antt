@@ -3,7 +3,7 @@ use mathlib.Core.Path.{refl, sym, ◌∙◌}
 use native.Mathlib.Nat.{zero-add}
 use native.Mathlib.Omega.{arith}
 use Rattle.tune_text.specs.Answers.{Tested}
-use Rattle.tune_text.proofs.AnswerLaws.{numbers-short, counts-short, strikes-short, answer-long, answer-short, answer-wrong, answer-read}
+use Rattle.tune_text.proofs.AnswerLaws.{numbers_short, counts_short, strikes_short, answer_long, answer_short, answer_wrong, answer_read}
 use borrow.Author.Rules.{rules}
 use Rattle.tune_text.proofs.tunes.read_tunes.Goals as goal
 use Rattle.tune_text.proofs.tunes.read_tunes.Goals.{Else-strikes-text}
@@ -14,25 +14,25 @@ tested : (c : Else-strikes-text) →
 tested c = record { text = omega arith; numbers = omega arith; counts = omega arith; strikes = omega arith }
 
 pub returns-then-text-gt-LONGEST : goal.returns-then-text-gt-LONGEST
-returns-then-text-gt-LONGEST c = record { value = answer-long _ _ _ _ c.if-text-gt-LONGEST.true; numbers_after = refl; counts_after = refl; strikes_after = refl }
+returns-then-text-gt-LONGEST c = record { value = answer_long _ _ _ _ c.if-text-gt-LONGEST.true; numbers_after = refl; counts_after = refl; strikes_after = refl }
 
 pub returns-then-numbers-text : goal.returns-then-numbers-text
-returns-then-numbers-text c = record { value = answer-short _ _ _ _ c.if-text-gt-LONGEST.false (numbers-short _ _ _ _ c.if-numbers-text.true); numbers_after = refl; counts_after = refl; strikes_after = refl }
+returns-then-numbers-text c = record { value = answer_short _ _ _ _ c.if-text-gt-LONGEST.false (numbers_short _ _ _ _ c.if-numbers-text.true); numbers_after = refl; counts_after = refl; strikes_after = refl }
 
 pub returns-then-counts-text : goal.returns-then-counts-text
 returns-then-counts-text c =
-    record { value = answer-short _ _ _ _ c.if-text-gt-LONGEST.false (counts-short _ _ _ _ c.if-counts-text.true); numbers_after = refl; counts_after = refl; strikes_after = refl }
+    record { value = answer_short _ _ _ _ c.if-text-gt-LONGEST.false (counts_short _ _ _ _ c.if-counts-text.true); numbers_after = refl; counts_after = refl; strikes_after = refl }
 
 pub returns-then-strikes-text : goal.returns-then-strikes-text
 returns-then-strikes-text c =
-    record { value = answer-short _ _ _ _ c.if-text-gt-LONGEST.false (strikes-short _ _ _ _ c.if-strikes-text.true); numbers_after = refl; counts_after = refl; strikes_after = refl }
+    record { value = answer_short _ _ _ _ c.if-text-gt-LONGEST.false (strikes_short _ _ _ _ c.if-strikes-text.true); numbers_after = refl; counts_after = refl; strikes_after = refl }
 
 pub returns-in-Wrong : goal.returns-in-Wrong
 returns-in-Wrong c =
-    record { value = answer-wrong _ _ _ _ _ (tested (goal.at.returns-in-Wrong c).Else-strikes-text) (sym c.find_mistake.ensures ∙ c.in-Wrong.is); numbers_after = refl; counts_after = refl; strikes_after = refl }
+    record { value = answer_wrong _ _ _ _ _ (tested (goal.at.returns-in-Wrong c).Else-strikes-text) (sym c.find_mistake.ensures ∙ c.in-Wrong.is); numbers_after = refl; counts_after = refl; strikes_after = refl }
 
 pub returns-in-Fine : goal.returns-in-Fine
 returns-in-Fine c =
     let e = sym c.find_mistake.ensures ∙ c.in-Fine.is in
-    let r = answer-read _ _ _ _ c.fill.result (tested (goal.at.returns-in-Fine c).Else-strikes-text) e (c.fill.ensures.wrote.after ∙ zero-add _) (c.fill.ensures.wrote_2.after ∙ zero-add _) in
+    let r = answer_read _ _ _ _ c.fill.result (tested (goal.at.returns-in-Fine c).Else-strikes-text) e (c.fill.ensures.wrote.after ∙ zero-add _) (c.fill.ensures.wrote_2.after ∙ zero-add _) in
     record { value = r; numbers_after = c.fill.ensures.wrote.text; counts_after = c.fill.ensures.counts_after; strikes_after = c.fill.ensures.wrote_2.text }

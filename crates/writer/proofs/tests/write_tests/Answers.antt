@@ -12,8 +12,8 @@ use Rattle.writer.proofs.tests.write_tests.Goals as goal
 use Rattle.writer.proofs.tests.write_tests.Goals.{Else-strikes_bad}
 
 -- the strikes are in range
-in-turn : (c : Else-strikes_bad) → strikes_bad c.args.strikes.now ≡ false
-in-turn c = sym c.strikes_bad.ensures ∙ c.if-strikes_bad.false
+in_turn : (c : Else-strikes_bad) → strikes_bad c.args.strikes.now ≡ false
+in_turn c = sym c.strikes_bad.ensures ∙ c.if-strikes_bad.false
 
 pub returns-then-strikes_bad : goal.returns-then-strikes_bad
 unfolding write_refusal
@@ -22,16 +22,16 @@ returns-then-strikes_bad c = rw (← c.strikes_bad.ensures, c.if-strikes_bad.tru
 pub returns-then-counts-numbers : goal.returns-then-counts-numbers
 unfolding write_refusal
 returns-then-counts-numbers c =
-    rw (in-turn (goal.at.returns-then-counts-numbers c).Else-strikes_bad, ne_eqb (length c.args.counts.now) (length c.args.numbers.now) c.if-counts-numbers.true)
+    rw (in_turn (goal.at.returns-then-counts-numbers c).Else-strikes_bad, ne_eqb (length c.args.counts.now) (length c.args.numbers.now) c.if-counts-numbers.true)
 
 pub later_tests-requires : goal.later_tests-requires
 later_tests-requires c =
     let cs = c.args.counts.now in
     let v = answer_value _ _ (size_refusal cs) (book_length cs) c.in-Value.is c.book_size.ensures in
-    record { strikes_value = in-turn (goal.at.later_tests-requires c).Else-strikes_bad; counts_len = c.if-counts-numbers.false; size_value = v.1; size_le_longest_book = rw v.1 (size_fits cs v.0) }
+    record { strikes_value = in_turn (goal.at.later_tests-requires c).Else-strikes_bad; counts_len = c.if-counts-numbers.false; size_value = v.1; size_le_longest_book = rw v.1 (size_fits cs v.0) }
 
 pub returns-in-Refused : goal.returns-in-Refused
 returns-in-Refused c =
     let cs = c.args.counts.now in
     let v = answer_refused _ _ (size_refusal cs) (book_length cs) c.in-Refused.is c.book_size.ensures in
-    v.0 ∙ size_decides _ cs _ _ (in-turn (goal.at.returns-in-Refused c).Else-strikes_bad) c.if-counts-numbers.false v.1
+    v.0 ∙ size_decides _ cs _ _ (in_turn (goal.at.returns-in-Refused c).Else-strikes_bad) c.if-counts-numbers.false v.1
