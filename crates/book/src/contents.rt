@@ -27,7 +27,7 @@ fn size_bad(book: &[u8]) -> bool
 
 // Refusal 6: some tune number is not 1 to 9,999, or not above the one before it.
 fn numbers_bad(book: &[u8], entries: u16) -> bool
-    requires entries_value { entries ≡ tunes book.now }
+    requires count_is { entries ≡ tunes book.now }
     requires entries_within { EntriesWithin book.now }
     ensures { result ≡ numbers_bad book.now }
 {
@@ -50,7 +50,7 @@ fn numbers_bad(book: &[u8], entries: u16) -> bool
 
 // Refusal 7: some tune has no cards, some body does not begin where those before it end, or the last does not end with the file.
 fn bodies_bad(book: &[u8], entries: u16) -> bool
-    requires entries_value { entries ≡ tunes book.now }
+    requires count_is { entries ≡ tunes book.now }
     requires entries_within { EntriesWithin book.now }
     ensures { result ≡ bodies_bad book.now }
 {

@@ -21,7 +21,7 @@ enum Place {
 
 // The entry that bears the tune number, or that there is none.
 fn find_entry(book: &[u8], count: usize, number: u32) -> Place
-    requires count_value { count ≡ tunes book.now }
+    requires count_is { count ≡ tunes book.now }
     requires entries_within { EntriesWithin book.now }
     ensures { place_of result ≡ entry_of book.now number }
 {

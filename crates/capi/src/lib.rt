@@ -253,8 +253,8 @@ pub extern "C" fn lucetcoral_damaged_card(body: &[u8], card: &mut u32) -> u32
 // The largest sum of wear over `width` cards in a row, and the first card at which such a run begins (document 02, P7).
 #[unsafe(no_mangle)]
 pub extern "C" fn lucetcoral_wear(body: &[u8], width: u32, sum: &mut u32, first: &mut u32) -> u32
-    ensures gives { Gives (wear_refusal body.now width) (worst_run body.now width).sum sum.old result sum.new }
-    ensures gives_2 { Gives (wear_refusal body.now width) (worst_run body.now width).first first.old result first.new }
+    ensures sum_given { Gives (wear_refusal body.now width) (worst_run body.now width).sum sum.old result sum.new }
+    ensures first_given { Gives (wear_refusal body.now width) (worst_run body.now width).first first.old result first.new }
 {
     match wear::worst_run(body, width) {
         Wear::Refused(why) => refusal::number(why),

@@ -20,10 +20,10 @@ struct CardLines {
 
 // The lines of all cards of a body. Each card is decoded once, for its line and for the length of the body.
 fn write_cards(body: &[u8], text: &mut [u8], at: usize) -> CardLines
-    requires body_value { body_good body.now ≡ true }
-    requires body_in_bounds { at + length (card_lines (cards_in body.now) body.now) ≤ length text.old }
+    requires good { body_good body.now ≡ true }
+    requires room { at + length (card_lines (cards_in body.now) body.now) ≤ length text.old }
     ensures wrote { Wrote text.old at (card_lines (cards_in body.now) body.now) text.new result.end }
-    ensures ticks_value { reply result.ticks ≡ total_delay body.now }
+    ensures ticks { reply result.ticks ≡ total_delay body.now }
 {
     let count = (body.len() / 12) as u32;
     let mut end = at;
@@ -43,8 +43,8 @@ fn write_cards(body: &[u8], text: &mut [u8], at: usize) -> CardLines
 
 // The card lines of a body, and its last line.
 fn write_body(body: &[u8], text: &mut [u8], at: usize) -> usize
-    requires body_value { body_good body.now ≡ true }
-    requires body_in_bounds { at + length (body_text body.now) ≤ length text.old }
+    requires good { body_good body.now ≡ true }
+    requires room { at + length (body_text body.now) ≤ length text.old }
     ensures { Wrote text.old at (body_text body.now) text.new result }
 {
     let lines = write_cards(body, text, at);
@@ -54,8 +54,8 @@ fn write_body(body: &[u8], text: &mut [u8], at: usize) -> usize
 
 // The tune of entry `e` of an accepted book.
 pub fn write_tune(book: &[u8], e: usize, text: &mut [u8], at: usize) -> usize
-    requires accepted_entry { AcceptedEntry book.now e }
-    requires e_in_bounds { at + length (tune_text book.now e) ≤ length text.old }
+    requires accepted { AcceptedEntry book.now e }
+    requires room { at + length (tune_text book.now e) ≤ length text.old }
     ensures { Wrote text.old at (tune_text book.now e) text.new result }
 {
     let tune = book::entry_at(book, e);

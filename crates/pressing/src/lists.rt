@@ -35,8 +35,8 @@ pub(crate) fn press_lists(
     book: &mut [u8],
     line: &mut [u8],
 ) -> Lengths
-    requires longest_book_in_bounds { longest_book ≤ length book.old }
-    requires longest_line_in_bounds { longest_line ≤ length line.old }
+    requires book_room { longest_book ≤ length book.old }
+    requires line_room { longest_line ≤ length line.old }
     ensures { ListsWrote numbers.now counts.now strikes.now book.old line.old result book.new line.new }
 {
     let size = room_for(counts);

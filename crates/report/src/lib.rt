@@ -24,8 +24,8 @@ const LONGEST: usize = 131072;
 
 // The text of the tune of entry `e` of an accepted book.
 fn write_tune(kind: Kind, book: &[u8], e: usize, text: &mut [u8], at: usize) -> usize
-    requires accepted_entry { AcceptedEntry book.now e }
-    requires e_in_bounds { at + length (tune_report kind book.now e) ≤ length text.old }
+    requires accepted { AcceptedEntry book.now e }
+    requires room { at + length (tune_report kind book.now e) ≤ length text.old }
     ensures { Wrote text.old at (tune_report kind book.now e) text.new result }
 {
     match kind {
@@ -37,8 +37,8 @@ fn write_tune(kind: Kind, book: &[u8], e: usize, text: &mut [u8], at: usize) -> 
 // All tunes of an accepted book, in contents order.
 fn write_tunes(kind: Kind, book: &[u8], count: usize, text: &mut [u8]) -> usize
     requires accepted { Accepted book.now }
-    requires count_value { count ≡ tunes book.now }
-    requires book_in_bounds { length (joined (tune_report kind book.now) (tunes book.now)) ≤ length text.old }
+    requires count_is { count ≡ tunes book.now }
+    requires room { length (joined (tune_report kind book.now) (tunes book.now)) ≤ length text.old }
     ensures { Wrote text.old 0 (joined (tune_report kind book.now) (tunes book.now)) text.new result }
 {
     let mut at = 0;
@@ -63,7 +63,7 @@ fn write_all(kind: Kind, book: &[u8], text: &mut [u8]) -> usize
 
 // The report of a book at the start of `text`, and how many bytes it has; or refusal 2, if `text` is shorter than the longest report.
 pub fn write_report(kind: Kind, book: &[u8], text: &mut [u8]) -> Answer
-    ensures result_value { reply result ≡ reply_with 0 (room_refusal longest text.old) (length (report kind book.now)) }
+    ensures answers { reply result ≡ reply_with 0 (room_refusal longest text.old) (length (report kind book.now)) }
     ensures text_after { text.new ≡ unless (room_refusal longest text.old) (written text.old 0 (report kind book.now)) text.old }
 {
     if text.len() < LONGEST {

@@ -47,8 +47,8 @@ fn put_number(said: Line, numbers: &mut [u16], at: usize) -> usize
 
 // How many strikes follow a tune's line, which ends before `next`.
 fn put_count(text: &[u8], next: usize, said: Line, counts: &mut [u16], at: usize) -> usize
-    requires text_len_bound { length text.now ≤ longest_text }
-    requires text_in_bounds { at + length (count_in said (lines_said (drop next text.now))) ≤ length counts.old }
+    requires text_fits { length text.now ≤ longest_text }
+    requires room { at + length (count_in said (lines_said (drop next text.now))) ≤ length counts.old }
     ensures { Wrote counts.old at (count_in said (lines_said (drop next text.now))) counts.new result }
 {
     match said {
@@ -82,13 +82,13 @@ fn put_strike(said: Line, strikes: &mut [u16], at: usize) -> usize
 
 // The lists of a text, each from its start.
 fn fill(text: &[u8], numbers: &mut [u16], counts: &mut [u16], strikes: &mut [u16]) -> Sizes
-    requires text_len_bound { length text.now ≤ longest_text }
-    requires text_in_bounds { length text.now ≤ length numbers.old }
-    requires text_in_bounds_2 { length text.now ≤ length counts.old }
-    requires text_in_bounds_3 { length text.now ≤ length strikes.old }
-    ensures wrote { Wrote numbers.old 0 (numbers_of (lines_said text.now)) numbers.new result.tunes }
+    requires text_fits { length text.now ≤ longest_text }
+    requires numbers_room { length text.now ≤ length numbers.old }
+    requires counts_room { length text.now ≤ length counts.old }
+    requires strikes_room { length text.now ≤ length strikes.old }
+    ensures numbers_wrote { Wrote numbers.old 0 (numbers_of (lines_said text.now)) numbers.new result.tunes }
     ensures counts_after { counts.new ≡ written counts.old 0 (counts_of (lines_said text.now)) }
-    ensures wrote_2 { Wrote strikes.old 0 (strikes_of (lines_said text.now)) strikes.new result.strikes }
+    ensures strikes_wrote { Wrote strikes.old 0 (strikes_of (lines_said text.now)) strikes.new result.strikes }
 {
     let mut tunes = 0;
     let mut counted = 0;

@@ -34,8 +34,8 @@ fn write_short(text: &mut [u8], at: usize, number: u32) -> usize
 
 // The line of the tune of entry `e` of an accepted book.
 pub fn write_tune(book: &[u8], e: usize, text: &mut [u8], at: usize) -> usize
-    requires accepted_entry { AcceptedEntry book.now e }
-    requires e_in_bounds { at + length (wear_line book.now e) ≤ length text.old }
+    requires accepted { AcceptedEntry book.now e }
+    requires room { at + length (wear_line book.now e) ≤ length text.old }
     ensures { Wrote text.old at (wear_line book.now e) text.new result }
 {
     let tune = book::entry_at(book, e);

@@ -51,8 +51,8 @@ fn write_symbols(book: &mut [u8], at: usize, word: [u16; 6]) -> usize
 
 // The card of a strike: the word of its message for k = 2.
 pub(crate) fn write_card(book: &mut [u8], at: usize, s: Strike) -> usize
-    requires at_in_bounds { at + 12 ≤ length book.old }
-    requires s_value { in_range s ≡ true }
+    requires room { at + 12 ≤ length book.old }
+    requires good { in_range s ≡ true }
     ensures { Wrote book.old at (card_bytes s) book.new result }
 {
     let message = strike::strike_message(s);

@@ -10,9 +10,9 @@ use strike::Strike;
 
 // The entries of the contents. The first body begins where the contents ends.
 fn write_entries(numbers: &[u16], counts: &[u16], book: &mut [u8], at: usize) -> usize
-    requires counts_len { length counts.now ≡ length numbers.now }
-    requires counts_bound { book_length counts.now ≤ longest_book }
-    requires numbers_in_bounds { at + length (entries_bytes numbers.now counts.now (contents_end (length numbers.now))) ≤ length book.old }
+    requires same_length { length counts.now ≡ length numbers.now }
+    requires book_fits { book_length counts.now ≤ longest_book }
+    requires room { at + length (entries_bytes numbers.now counts.now (contents_end (length numbers.now))) ≤ length book.old }
     ensures { Wrote book.old at (entries_bytes numbers.now counts.now (contents_end (length numbers.now))) book.new result }
 {
     let mut next = at;
@@ -28,9 +28,9 @@ fn write_entries(numbers: &[u16], counts: &[u16], book: &mut [u8], at: usize) ->
 
 // The contents: how many tunes there are, then the entries.
 pub(crate) fn write_contents(numbers: &[u16], counts: &[u16], book: &mut [u8]) -> usize
-    requires counts_len { length counts.now ≡ length numbers.now }
-    requires counts_bound { book_length counts.now ≤ longest_book }
-    requires counts_in_bounds { length (contents_bytes numbers.now counts.now) ≤ length book.old }
+    requires same_length { length counts.now ≡ length numbers.now }
+    requires book_fits { book_length counts.now ≤ longest_book }
+    requires room { length (contents_bytes numbers.now counts.now) ≤ length book.old }
     ensures { Wrote book.old 0 (contents_bytes numbers.now counts.now) book.new result }
 {
     let next = write_two(book, 0, numbers.len() as u16);
@@ -39,8 +39,8 @@ pub(crate) fn write_contents(numbers: &[u16], counts: &[u16], book: &mut [u8]) -
 
 // The cards of all strikes.
 pub(crate) fn write_cards(strikes: &[u16], book: &mut [u8], at: usize) -> usize
-    requires strikes_value { strikes_bad strikes.now ≡ false }
-    requires strikes_in_bounds { at + length (cards_bytes (strikes_of strikes.now)) ≤ length book.old }
+    requires strikes_good { strikes_bad strikes.now ≡ false }
+    requires room { at + length (cards_bytes (strikes_of strikes.now)) ≤ length book.old }
     ensures { Wrote book.old at (cards_bytes (strikes_of strikes.now)) book.new result }
 {
     let mut next = at;

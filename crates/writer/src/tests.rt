@@ -51,10 +51,10 @@ fn later_tests(
     size: usize,
     room: usize,
 ) -> Outcome
-    requires strikes_value { strikes_bad strikes.now ≡ false }
-    requires counts_len { length counts.now ≡ length numbers.now }
-    requires size_value { size ≡ book_length counts.now }
-    requires size_le_longest_book { size ≤ longest_book }
+    requires strikes_good { strikes_bad strikes.now ≡ false }
+    requires same_length { length counts.now ≡ length numbers.now }
+    requires size_is { size ≡ book_length counts.now }
+    requires size_fits { size ≤ longest_book }
     ensures { outcome result ≡ write_refusal numbers.now counts.now strikes.now room }
 {
     if !numbers_rise(numbers) {

@@ -11,10 +11,10 @@ returns-in-Refused c =
     let w = c.worst_run.ensures in
     let p = ap wear_reply c.in-Refused.is in
     let n = c.number.ensures in
-    record { gives = part_refused (λ (r : Run). r.sum) no_run _ _ _ w _ c.in-Refused.why _ p n; gives_2 = part_refused (λ (r : Run). r.first) no_run _ _ _ w _ c.in-Refused.why _ p n }
+    record { sum_given = part_refused (λ (r : Run). r.sum) no_run _ _ _ w _ c.in-Refused.why _ p n; first_given = part_refused (λ (r : Run). r.first) no_run _ _ _ w _ c.in-Refused.why _ p n }
 
 pub returns-in-Run : goal.returns-in-Run
 returns-in-Run c =
     let w = c.worst_run.ensures in
     let p = ap wear_reply c.in-Run.is in
-    record { gives = part_given (λ (r : Run). r.sum) no_run _ _ _ w _ _ p; gives_2 = part_given (λ (r : Run). r.first) no_run _ _ _ w _ _ p }
+    record { sum_given = part_given (λ (r : Run). r.sum) no_run _ _ _ w _ _ p; first_given = part_given (λ (r : Run). r.first) no_run _ _ _ w _ _ p }

@@ -26,7 +26,7 @@ opened c = answer_value _ _ _ _ c.in-Value.is c.«open».ensures
 pub write_tunes-requires : goal.write_tunes-requires
 write_tunes-requires c =
     let o = opened (goal.at.write_tunes-requires c).In-Value in
-    record { accepted = o.0; count_value = o.1; book_in_bounds = omega (arith, ap length (report_accepted c.args.kind c.args.book.now o.0)) }
+    record { accepted = o.0; count_is = o.1; room = omega (arith, ap length (report_accepted c.args.kind c.args.book.now o.0)) }
 
 pub returns-in-Value : goal.returns-in-Value
 returns-in-Value c =

@@ -12,7 +12,7 @@ use Rattle.report.proofs.write_report.Goals.{After-slice_known-2-1}
 
 pub returns-then-text-lt-LONGEST : goal.returns-then-text-lt-LONGEST
 unfolding reply_with unless
-returns-then-text-lt-LONGEST c = let e = room_short longest c.args.text.now (omega arith) in record { result_value = rw e; text_after = rw e }
+returns-then-text-lt-LONGEST c = let e = room_short longest c.args.text.now (omega arith) in record { answers = rw e; text_after = rw e }
 
 -- the answer is the length of the report
 size : (c : After-slice_known-2-1) →
@@ -27,7 +27,7 @@ pub returns : goal.returns
 unfolding reply_with unless
 returns c =
     let e = room_enough longest c.args.text.now (omega arith) in
-    record { result_value = rw (e, size (goal.at.returns c).After-slice_known-2-1); text_after = rw e c.write_all.ensures.text }
+    record { answers = rw (e, size (goal.at.returns c).After-slice_known-2-1); text_after = rw e c.write_all.ensures.text }
 
 pub write_all-requires : goal.write_all-requires
 write_all-requires c = omega (arith, report_within c.args.kind c.args.book.now)

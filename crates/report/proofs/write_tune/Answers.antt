@@ -8,11 +8,11 @@ use Rattle.report.proofs.write_tune.Goals as goal
 
 pub write_tune-requires : goal.write_tune-requires
 write_tune-requires c =
-    record { accepted_entry = c.requires.accepted_entry; e_in_bounds = omega (arith, c.requires.e_in_bounds, ap length (kind_listing _ c.args.book.now c.args.e c.in-Listing.is)) }
+    record { accepted = c.requires.accepted; room = omega (arith, c.requires.room, ap length (kind_listing _ c.args.book.now c.args.e c.in-Listing.is)) }
 
 pub write_tune-requires-in-Wear : goal.write_tune-requires-in-Wear
 write_tune-requires-in-Wear c =
-    record { accepted_entry = c.requires.accepted_entry; e_in_bounds = omega (arith, c.requires.e_in_bounds, ap length (kind_wear _ c.args.book.now c.args.e c.in-Wear.is)) }
+    record { accepted = c.requires.accepted; room = omega (arith, c.requires.room, ap length (kind_wear _ c.args.book.now c.args.e c.in-Wear.is)) }
 
 pub returns-in-Listing : goal.returns-in-Listing
 returns-in-Listing c =

@@ -10,7 +10,7 @@ use Rattle.report.proofs.write_tunes.Goals as goal
 pub write_tune-at-requires : goal.write_tune-at-requires
 write_tune-at-requires c =
     let h : c.loop-e.e < tunes c.args.book.now = omega arith in
-    record { accepted_entry = (c.requires.accepted, h); e_in_bounds = joining_room c.loop-e.invariant h (omega (arith, c.requires.book_in_bounds)) }
+    record { accepted = (c.requires.accepted, h); room = joining_room c.loop-e.invariant h (omega (arith, c.requires.room)) }
 
 pub loop-e-init : goal.loop-e-init
 loop-e-init c = joining_start _ _ _ 0 (omega arith)

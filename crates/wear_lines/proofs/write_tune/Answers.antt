@@ -17,13 +17,13 @@ run_line_is : (c : In-Run) →
     wear_line c.args.book.now c.args.e ≡ run_line c.entry_at-tune.result.number c.in-Run.run'
 run_line_is c =
     let t = entry_parts _ _ _ c.entry_at-tune.ensures in
-    rw t.0 (line_run _ _ c.requires.accepted_entry _ (rw c.body_at.ensures at c.worst_run.ensures) _ c.in-Run.is)
+    rw t.0 (line_run _ _ c.requires.accepted _ (rw c.body_at.ensures at c.worst_run.ensures) _ c.in-Run.is)
 
 short_line_is : (c : In-Refused) →
     wear_line c.args.book.now c.args.e ≡ short_line c.entry_at-tune.result.number
 short_line_is c =
     let t = entry_parts _ _ _ c.entry_at-tune.ensures in
-    rw t.0 (line_short _ _ c.requires.accepted_entry _ (rw c.body_at.ensures at c.worst_run.ensures) _ c.in-Refused.is)
+    rw t.0 (line_short _ _ c.requires.accepted _ (rw c.body_at.ensures at c.worst_run.ensures) _ c.in-Refused.is)
 
 pub write_run-requires : goal.write_run-requires
 write_run-requires c = omega (arith, ap length (run_line_is (goal.at.write_run-requires c).In-Run))

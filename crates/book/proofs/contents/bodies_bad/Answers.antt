@@ -26,7 +26,7 @@ returns-then-offset_of-end c =
     rw (c.loop-e.invariant.2, bodies_next bs e x (omega arith), le-leb 1 (cards bs e) (omega arith), n)
 
 pub loop-e-init : goal.loop-e-init
-loop-e-init c = (search rules, search rules, rw c.requires.entries_value (bodies_start _))
+loop-e-init c = (search rules, search rules, rw c.requires.count_is (bodies_start _))
 
 pub loop-e-preserved : goal.loop-e-preserved
 loop-e-preserved c =

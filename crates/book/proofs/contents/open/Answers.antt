@@ -31,13 +31,13 @@ pub numbers_bad-requires : goal.numbers_bad-requires
 numbers_bad-requires c =
     let bs = c.args.book.now in
     let p : size_bad bs ≡ false = cc in
-    record { entries_value = c.tune_count-count.ensures; entries_within = (size_within bs p).2 }
+    record { count_is = c.tune_count-count.ensures; entries_within = (size_within bs p).2 }
 
 pub bodies_bad-requires : goal.bodies_bad-requires
 bodies_bad-requires c =
     let bs = c.args.book.now in
     let p : size_bad bs ≡ false = cc in
-    record { entries_value = c.tune_count-count.ensures; entries_within = (size_within bs p).2 }
+    record { count_is = c.tune_count-count.ensures; entries_within = (size_within bs p).2 }
 
 pub returns-then-numbers_bad : goal.returns-then-numbers_bad
 unfolding reply_with contents_refusal

@@ -20,7 +20,7 @@ loop-e-preserved c =
 
 pub returns-then-count-e : goal.returns-then-count-e
 returns-then-count-e c =
-    sym ((entry_none c.args.book.now c.args.number).1 (λ i a b. c.loop-e.invariant.0 i a (omega (arith, c.requires.count_value))))
+    sym ((entry_none c.args.book.now c.args.number).1 (λ i a b. c.loop-e.invariant.0 i a (omega (arith, c.requires.count_is))))
 
 pub returns-then-number_of-number : goal.returns-then-number_of-number
 unfolding bears

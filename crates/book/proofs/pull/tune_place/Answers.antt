@@ -23,7 +23,7 @@ opened c =
     answer_value _ _ (open_refusal bs) (tunes bs) c.in-Value.is c.«open».ensures
 
 pub find_entry-requires : goal.find_entry-requires
-find_entry-requires c = let o = opened (goal.at.find_entry-requires c).In-Value in record { count_value = o.1; entries_within = entries_within _ o.0 }
+find_entry-requires c = let o = opened (goal.at.find_entry-requires c).In-Value in record { count_is = o.1; entries_within = entries_within _ o.0 }
 
 -- the entry is what the search found
 searched : (c : After-find_entry) (f : Place) → c.find_entry.result ≡ f →

@@ -9,13 +9,13 @@ use Rattle.listing.proofs.tunes.write_body.Goals as goal
 pub write_ticks-requires : goal.write_ticks-requires
 unfolding body_text
 write_ticks-requires c =
-    rw c.write_cards-lines.ensures.ticks_value (room_then c.write_cards-lines.ensures.wrote _ c.requires.body_in_bounds)
+    rw c.write_cards-lines.ensures.ticks (room_then c.write_cards-lines.ensures.wrote _ c.requires.room)
 
 pub returns : goal.returns
 unfolding body_text
 returns c =
-    wrote_then c.write_cards-lines.ensures.wrote (rw c.write_cards-lines.ensures.ticks_value at c.write_ticks.ensures)
+    wrote_then c.write_cards-lines.ensures.wrote (rw c.write_cards-lines.ensures.ticks at c.write_ticks.ensures)
 
 pub write_cards-lines-requires : goal.write_cards-lines-requires
 write_cards-lines-requires c =
-    record { body_value = c.requires.body_value; body_in_bounds = omega (arith, body_text_length c.args.body.now) }
+    record { good = c.requires.good; room = omega (arith, body_text_length c.args.body.now) }

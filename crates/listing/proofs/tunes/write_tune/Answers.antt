@@ -26,7 +26,7 @@ pub write_body-requires : goal.write_body-requires
 unfolding tune_text
 write_body-requires c =
     let p = c.body_at.ensures in
-    record { body_value = rw p (part_good _ c.requires.accepted_entry.0 _ c.requires.accepted_entry.1); body_in_bounds = rw p (room_then (line (goal.at.write_body-requires c).After-write_tune_line-line_end) _ c.requires.e_in_bounds) }
+    record { good = rw p (part_good _ c.requires.accepted.0 _ c.requires.accepted.1); room = rw p (room_then (line (goal.at.write_body-requires c).After-write_tune_line-line_end) _ c.requires.room) }
 
 pub returns : goal.returns
 unfolding tune_text

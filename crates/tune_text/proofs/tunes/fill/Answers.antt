@@ -22,7 +22,7 @@ put_number-tunes-requires c =
     let h = c.line_here-here.result in
     let rest = numbers_of (lines_said (drop h.next c.args.text.now)) in
     partway_room c.loop-at.invariant.0 (number_in h.said) rest (ap numbers_of c.line_here-here.ensures.lines)
-    (omega (arith, numbers_within c.args.text.now, c.requires.text_in_bounds))
+    (omega (arith, numbers_within c.args.text.now, c.requires.numbers_room))
 
 pub put_count-counted-requires : goal.put_count-counted-requires
 unfolding counts_of
@@ -30,8 +30,8 @@ put_count-counted-requires c =
     let h = c.line_here-here.result in
     let ls = lines_said (drop h.next c.args.text.now) in
     let e = ap counts_of c.line_here-here.ensures.lines in record {
-      text_len_bound = c.requires.text_len_bound;
-      text_in_bounds = partway_room c.loop-at.invariant.1 (count_in h.said ls) (counts_of ls) e (omega (arith, counts_within c.args.text.now, c.requires.text_in_bounds_2));
+      text_fits = c.requires.text_fits;
+      room = partway_room c.loop-at.invariant.1 (count_in h.said ls) (counts_of ls) e (omega (arith, counts_within c.args.text.now, c.requires.counts_room));
     }
 
 pub put_strike-used-requires : goal.put_strike-used-requires
@@ -40,7 +40,7 @@ put_strike-used-requires c =
     let h = c.line_here-here.result in
     let rest = strikes_of (lines_said (drop h.next c.args.text.now)) in
     partway_room c.loop-at.invariant.2 (strike_in h.said) rest (ap strikes_of c.line_here-here.ensures.lines)
-    (omega (arith, strikes_within c.args.text.now, c.requires.text_in_bounds_3))
+    (omega (arith, strikes_within c.args.text.now, c.requires.strikes_room))
 
 pub loop-at-smaller : goal.loop-at-smaller
 loop-at-smaller c =
@@ -70,4 +70,4 @@ unfolding gathered counts_of
 returns c =
     let e = said_end c.args.text.now c.loop-at.at (omega arith) in
     let f = c.loop-at.invariant in
-    record { wrote = partway_end f.0 (ap numbers_of e); counts_after = (partway_end f.1 (ap counts_of e)).text; wrote_2 = partway_end f.2 (ap strikes_of e) }
+    record { numbers_wrote = partway_end f.0 (ap numbers_of e); counts_after = (partway_end f.1 (ap counts_of e)).text; strikes_wrote = partway_end f.2 (ap strikes_of e) }

@@ -6,7 +6,7 @@ use Rattle.tune_text.proofs.tunes.put_count.Goals as goal
 
 pub bounds-counts-at : goal.bounds-counts-at
 bounds-counts-at c =
-    let p = rw c.in-Tune.is at c.requires.text_in_bounds in omega arith
+    let p = rw c.in-Tune.is at c.requires.room in omega arith
 
 pub returns-in-Nothing : goal.returns-in-Nothing
 returns-in-Nothing c =
@@ -15,7 +15,7 @@ returns-in-Nothing c =
 pub returns-in-Tune : goal.returns-in-Tune
 returns-in-Tune c =
     let e = c.in-Tune.is in
-    let p = rw e at c.requires.text_in_bounds in
+    let p = rw e at c.requires.room in
     rw (e, ← c.cards_ahead.ensures) (wrote_byte c.args.counts.now c.args.at c.cards_ahead.result (omega arith))
 
 pub returns-in-Strike : goal.returns-in-Strike

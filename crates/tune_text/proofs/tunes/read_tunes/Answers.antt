@@ -34,5 +34,5 @@ returns-in-Wrong c =
 pub returns-in-Fine : goal.returns-in-Fine
 returns-in-Fine c =
     let e = sym c.find_mistake.ensures ∙ c.in-Fine.is in
-    let r = answer_read _ _ _ _ c.fill.result (tested (goal.at.returns-in-Fine c).Else-strikes-text) e (c.fill.ensures.wrote.after ∙ zero-add _) (c.fill.ensures.wrote_2.after ∙ zero-add _) in
-    record { value = r; numbers_after = c.fill.ensures.wrote.text; counts_after = c.fill.ensures.counts_after; strikes_after = c.fill.ensures.wrote_2.text }
+    let r = answer_read _ _ _ _ c.fill.result (tested (goal.at.returns-in-Fine c).Else-strikes-text) e (c.fill.ensures.numbers_wrote.after ∙ zero-add _) (c.fill.ensures.strikes_wrote.after ∙ zero-add _) in
+    record { value = r; numbers_after = c.fill.ensures.numbers_wrote.text; counts_after = c.fill.ensures.counts_after; strikes_after = c.fill.ensures.strikes_wrote.text }

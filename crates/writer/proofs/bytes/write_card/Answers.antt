@@ -6,7 +6,7 @@ use Rattle.writer.proofs.bytes.write_card.Goals as goal
 
 pub word_of-word-requires : goal.word_of-word-requires
 word_of-word-requires c =
-    let m = rw (← c.strike_message-message.ensures) at (message_good c.args.s c.requires.s_value) in
+    let m = rw (← c.strike_message-message.ensures) at (message_good c.args.s c.requires.good) in
     (search rules, search rules, m)
 
 pub returns : goal.returns

@@ -10,7 +10,7 @@ use Rattle.writer.proofs.filling.write_cards.Goals as goal
 
 pub loop-i-init : goal.loop-i-init
 loop-i-init c =
-    cards_start _ _ _ c.requires.strikes_value (omega arith)
+    cards_start _ _ _ c.requires.strikes_good (omega arith)
 
 pub overflow_add-i : goal.overflow_add-i
 overflow_add-i c =
@@ -28,8 +28,8 @@ overflow_cast-s-in-loop-i-2 c = omega (arith, c.type_inv.strikes (c.loop-i.i + 2
 
 pub write_card-next-requires : goal.write_card-next-requires
 write_card-next-requires c =
-    let room = cards_room _ _ _ c.loop-i.invariant (omega arith) c.requires.strikes_in_bounds in
-    record { at_in_bounds = room.0; s_value = room.1 }
+    let room = cards_room _ _ _ c.loop-i.invariant (omega arith) c.requires.room in
+    record { room = room.0; good = room.1 }
 
 pub loop-i-preserved : goal.loop-i-preserved
 loop-i-preserved c =

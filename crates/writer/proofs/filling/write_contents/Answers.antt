@@ -18,7 +18,7 @@ write_two-next-requires c = search rules
 pub write_entries-requires : goal.write_entries-requires
 unfolding contents_bytes
 write_entries-requires c =
-    record { counts_len = c.requires.counts_len; counts_bound = c.requires.counts_bound; numbers_in_bounds = room_then c.write_two-next.ensures (entries_bytes c.args.numbers.now c.args.counts.now (contents_end (length c.args.numbers.now))) (omega (arith, c.requires.counts_in_bounds)) }
+    record { same_length = c.requires.same_length; book_fits = c.requires.book_fits; room = room_then c.write_two-next.ensures (entries_bytes c.args.numbers.now c.args.counts.now (contents_end (length c.args.numbers.now))) (omega (arith, c.requires.room)) }
 
 pub returns : goal.returns
 unfolding contents_bytes

@@ -19,15 +19,15 @@ overflow_add-start c = search rules
 
 pub loop-e-init : goal.loop-e-init
 loop-e-init c =
-    entries_start _ _ _ _ c.requires.counts_len (omega arith)
+    entries_start _ _ _ _ c.requires.same_length (omega arith)
 
 pub overflow_cast-start : goal.overflow_cast-start
 overflow_cast-start c =
-    omega (arith, start_within _ _ _ _ c.requires.counts_len c.loop-e.invariant, c.requires.counts_bound)
+    omega (arith, start_within _ _ _ _ c.requires.same_length c.loop-e.invariant, c.requires.book_fits)
 
 pub write_entry-next-requires : goal.write_entry-next-requires
 write_entry-next-requires c =
-    entries_room _ _ _ _ c.requires.counts_len c.loop-e.invariant c.requires.numbers_in_bounds c.loop-e-test.true
+    entries_room _ _ _ _ c.requires.same_length c.loop-e.invariant c.requires.room c.loop-e-test.true
 
 pub overflow_cast-start-in-loop-e : goal.overflow_cast-start-in-loop-e
 overflow_cast-start-in-loop-e c =
@@ -39,15 +39,15 @@ overflow_mul-start-in-loop-e c =
 
 pub overflow_add-start-in-loop-e : goal.overflow_add-start-in-loop-e
 overflow_add-start-in-loop-e c =
-    omega (arith, next_within _ _ _ _ c.requires.counts_len c.loop-e.invariant (omega arith), c.requires.counts_bound)
+    omega (arith, next_within _ _ _ _ c.requires.same_length c.loop-e.invariant (omega arith), c.requires.book_fits)
 
 pub loop-e-preserved : goal.loop-e-preserved
 loop-e-preserved c =
-    entries_next _ _ _ _ c.requires.counts_len c.loop-e.invariant (omega arith) c.write_entry-next.ensures
+    entries_next _ _ _ _ c.requires.same_length c.loop-e.invariant (omega arith) c.write_entry-next.ensures
 
 pub returns : goal.returns
 returns c =
-    entries_done _ _ _ _ c.requires.counts_len c.loop-e.invariant c.loop-e-test.false
+    entries_done _ _ _ _ c.requires.same_length c.loop-e.invariant c.loop-e-test.false
 
 pub shape_of-book : goal.shape_of-book
 shape_of-book c = wrote_length c.loop-e.invariant.partway.wrote

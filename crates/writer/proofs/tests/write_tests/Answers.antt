@@ -28,7 +28,7 @@ pub later_tests-requires : goal.later_tests-requires
 later_tests-requires c =
     let cs = c.args.counts.now in
     let v = answer_value _ _ (size_refusal cs) (book_length cs) c.in-Value.is c.book_size.ensures in
-    record { strikes_value = in_turn (goal.at.later_tests-requires c).Else-strikes_bad; counts_len = c.if-counts-numbers.false; size_value = v.1; size_le_longest_book = rw v.1 (size_fits cs v.0) }
+    record { strikes_good = in_turn (goal.at.later_tests-requires c).Else-strikes_bad; same_length = c.if-counts-numbers.false; size_is = v.1; size_fits = rw v.1 (size_fits cs v.0) }
 
 pub returns-in-Refused : goal.returns-in-Refused
 returns-in-Refused c =

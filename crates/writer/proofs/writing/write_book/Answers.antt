@@ -29,13 +29,13 @@ pub write_contents-next-requires : goal.write_contents-next-requires
 write_contents-next-requires c =
     let (w, f) = lists_passed (goal.at.write_contents-next-requires c).In_default in
     let l = length-append (contents_bytes c.args.numbers.now c.args.counts.now) (cards_bytes (strikes c.args.strikes.now)) in
-    record { counts_len = w.paired; counts_bound = w.size; counts_in_bounds = omega (arith, f, l) }
+    record { same_length = w.paired; book_fits = w.size; room = omega (arith, f, l) }
 
 pub write_cards-requires : goal.write_cards-requires
 write_cards-requires c =
     let (p, f) = lists_passed (goal.at.write_cards-requires c).In_default in
     let ss = c.args.strikes.now in
-    record { strikes_value = p.strikes_in; strikes_in_bounds = room_then c.write_contents-next.ensures (cards_bytes (strikes ss)) (omega (arith, f)) }
+    record { strikes_good = p.strikes_in; room = room_then c.write_contents-next.ensures (cards_bytes (strikes ss)) (omega (arith, f)) }
 
 pub returns : goal.returns
 unfolding book_bytes
