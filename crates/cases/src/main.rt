@@ -6,7 +6,7 @@
 
 mod books;
 mod code;
-mod levels;
+mod level_calls;
 mod parse;
 mod print;
 mod tunes;
@@ -33,11 +33,11 @@ fn run(out: &impl Print, line: &[u8]) {
         11 => books::write_book(out, line, at),
         12 => books::book_size(out, line, at),
         13 => code::decode_dead(out, line, at),
-        14 => levels::signed(out, line, at),
-        15 => levels::symbol(out, line, at),
-        16 => levels::levels(out, line, at),
-        17 => levels::symbols(out, line, at),
-        18 => levels::receive(out, line, at),
+        14 => level_calls::signed(out, line, at),
+        15 => level_calls::symbol(out, line, at),
+        16 => level_calls::levels(out, line, at),
+        17 => level_calls::symbols(out, line, at),
+        18 => level_calls::receive(out, line, at),
         19 => tunes::worst_run(out, line, at),
         _ => {},
     }

@@ -7,7 +7,7 @@ use Rattle.book.specs.Layout.{longest_book}
 use Rattle.text.specs.Text.{written}
 use Rattle.text.proofs.WritingLaws.{written_front}
 use Rattle.tune_text.specs.MistakeLines.{longest_line}
-use Rattle.pressing.specs.declared.lists.Lengths.{Lengths}
+use Rattle.pressing.specs.declared.from_lists.Lengths.{Lengths}
 use Rattle.pressing.specs.declared.texts.Pressed.{Pressed}
 use Rattle.pressing.specs.declared.texts.Pressed.TheVariants.{Texts}
 use Rattle.pressing.specs.Pressing.{said, pressed, lent_refusal, no_bytes, both_lengths, Presses}

@@ -27,7 +27,7 @@ use Rattle.tune_text.specs.Reading.{lines_said, mistake_of, longest_text, too_sh
 use Rattle.tune_text.specs.MistakeLines.{longest_line, mistake_line, too_long_line, mistake_line_within}
 use Rattle.tune_text.specs.Answers.{ReadSo}
 use Rattle.tune_text.proofs.AnswerLaws.{wrong_line, read_so, counts_size, read_front}
-use Rattle.pressing.specs.declared.lists.Lengths.{Lengths}
+use Rattle.pressing.specs.declared.from_lists.Lengths.{Lengths}
 use Rattle.pressing.specs.declared.texts.Pressed.TheVariants.{Texts, Refused}
 use Rattle.pressing.specs.Pressing.{text_numbers, text_counts, text_strikes, press_refusal, refusal_line, mistake_or, said, pressed}
 use Rattle.pressing.specs.Pressing.{lengths_short, lent_refusal, both_lengths, Presses}

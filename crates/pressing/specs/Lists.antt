@@ -21,7 +21,7 @@ use Rattle.text.proofs.WritingLaws.{wrote_none}
 use Rattle.writer.specs.Writing.{book_bytes, book_length, size_refusal, any_zero, lengths_good, write_refusal, Written}
 use Rattle.writer.proofs.Filled.{whole_fits}
 use Rattle.tune_text.specs.MistakeLines.{longest_line}
-use Rattle.pressing.specs.declared.lists.Lengths.{Lengths}
+use Rattle.pressing.specs.declared.from_lists.Lengths.{Lengths}
 use Rattle.pressing.specs.Pressing.{lists_refusal, refusal_line}
 
 -- BOOK AND LINE were written, each from the start of its list, and these are their lengths

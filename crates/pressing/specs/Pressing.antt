@@ -10,7 +10,7 @@ use Rattle.tune_text.specs.declared.mistakes.Check.{Check}
 use Rattle.tune_text.specs.declared.mistakes.Check.TheVariants as check
 use Rattle.tune_text.specs.Reading.{lines_said, numbers_of, counts_of, strikes_of, mistake_of, longest_text, tunes_of, when_read}
 use Rattle.tune_text.specs.MistakeLines.{longest_line, mistake_line, too_long_line}
-use Rattle.pressing.specs.declared.lists.Lengths.{Lengths}
+use Rattle.pressing.specs.declared.from_lists.Lengths.{Lengths}
 use Rattle.pressing.specs.declared.texts.Pressed.{Pressed}
 use Rattle.pressing.specs.declared.texts.Pressed.TheVariants.{Texts, Refused}
 

@@ -4,7 +4,7 @@ ghost use Rattle.pressing.specs.Pressing.{said, pressed, lengths_short, Presses}
 ghost use Rattle.pressing.specs.Lists.{BothWrote};
 ghost use Rattle.pressing.specs.Texts.{Enough, ListsRead};
 
-use crate::lists::{LONGEST_LINE, Lengths, press_lists};
+use crate::from_lists::{LONGEST_LINE, Lengths, press_lists};
 use refusal::Refusal;
 use tune_text::Tunes;
 

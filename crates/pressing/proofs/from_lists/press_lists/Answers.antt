@@ -4,8 +4,8 @@ use native.Mathlib.Omega.{arith}
 use borrow.Author.Rules.{rules}
 use Rattle.pressing.specs.Pressing.{lists_refusal}
 use Rattle.pressing.specs.Lists.{refused_within, part_within, part_length, lists_number, lists_done, lists_refused}
-use Rattle.pressing.proofs.lists.press_lists.Goals as goal
-use Rattle.pressing.proofs.lists.press_lists.Goals.{After-number}
+use Rattle.pressing.proofs.from_lists.press_lists.Goals as goal
+use Rattle.pressing.proofs.from_lists.press_lists.Goals.{After-number}
 
 pub slice_bounds-write_book-end : goal.slice_bounds-write_book-end
 slice_bounds-write_book-end c =

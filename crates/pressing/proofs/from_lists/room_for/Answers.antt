@@ -4,7 +4,7 @@ use borrow.Author.Tests.{ne_eqb}
 use Rattle.refusal.specs.Replies.{answer_refused, answer_value, unless_refused, unless_done}
 use Rattle.writer.specs.Writing.{book_length, size_refusal}
 use Rattle.pressing.specs.Lists.{room_for}
-use Rattle.pressing.proofs.lists.room_for.Goals as goal
+use Rattle.pressing.proofs.from_lists.room_for.Goals as goal
 
 pub returns-in-Value : goal.returns-in-Value
 unfolding room_for
