@@ -12,7 +12,7 @@ fn main() {
     let folder = Path::new(&package).join("../target/staticlib");
     let library = folder.join("libcapi.a");
     if !library.is_file() {
-        println!("cargo:warning=no libcapi.a: run `rt staticlib capi` in the repository first");
+        println!("cargo:warning=no libcapi.a: run `tools/build capi` in the repository first");
     }
     println!("cargo:rustc-link-search=native={}", folder.display());
     println!("cargo:rerun-if-changed={}", library.display());

@@ -20,7 +20,7 @@
    STACK. No call was seen to use more than 4.8 KiB of stack: measured with cards of every damage and with dead lines, and full books, not proved.
    8 KiB leave room.
 
-   PLATFORM. The archive is target/staticlib/libcapi.a, which `rt staticlib capi` writes: position-independent code for Linux on any x86-64
+   PLATFORM. The archive is target/staticlib/libcapi.a, which `tools/build capi` writes: position-independent code for Linux on any x86-64
    processor, with the System V calling convention. It needs memcpy, memmove and memset of a C library at most, calls nothing else, and leaves
    errno alone. Only tests compare this header with the archive, so both must come from one revision. */
 #ifndef LUCETCORAL_H

@@ -44,7 +44,7 @@ fn program(name: &str) -> PathBuf {
     let path = repository("target/bin").join(name);
     assert!(
         path.is_file(),
-        "no target/bin/{name}: run `rt check list_book wear_book press_book cases` in the \
+        "no target/bin/{name}: run `tools/build list_book wear_book press_book cases` in the \
          repository first"
     );
     path

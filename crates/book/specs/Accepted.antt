@@ -1,7 +1,6 @@
 -- A book that Open accepts: it is empty and has no tunes, or its bodies lie one after another and fill the file; and its tune numbers rise.
 use Rattle.std.specs.Prelude.{◌≡◌, false, List}
 use Prim.Native.Nat.{ℕ, zero, suc, ◌+◌, ◌*◌, ◌<◌}
-use Rattle.refusal.specs.Replies.{number}
 use Rattle.book.specs.Layout.{tunes, contents_end, tune_number, cards}
 use Rattle.book.specs.Open.{size_bad, numbers_bad, bodies_bad, open_refusal}
 

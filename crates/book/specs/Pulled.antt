@@ -1,9 +1,8 @@
 -- Pull leads to each tune of an accepted book, and to nothing else.
 -- Main: There.
 use Rattle.std.specs.Prelude.{◌≡◌, List, ℕ}
-use Rattle.refusal.specs.Replies.{number}
 use Rattle.book.specs.Layout.{tune_number, offset, part_of}
-use Rattle.book.specs.Pull.{bears, pulled, pulled_from}
+use Rattle.book.specs.Pull.{pulled, pulled_from}
 use Rattle.book.specs.Accepted.{AcceptedEntry}
 
 -- the tune is there: entry e of an accepted book bears the number, and its part is what Pull gives back

@@ -3,12 +3,11 @@
 -- Main: row_multipliers, column_multipliers, steps.
 use Rattle.std.specs.Prelude.{cond}
 use mathlib.Core.List.{List, [], ◌∷◌, ◌++◌}
-use Prim.Native.Nat.{ℕ, zero, suc, ◌+◌, ◌*◌, ◌/◌, ◌%◌, ◌^◌}
+use Prim.Native.Nat.{ℕ, zero, suc, ◌*◌, ◌/◌, ◌%◌, ◌^◌}
 use Rattle.std.proofs.Math.Dec.{eqb}
-use Rattle.algebra.specs.Digits.{digit}
 use Rattle.rank.specs.Definitions.{at}
 use Rattle.dead_lines.specs.Struck.{bit}
-use Rattle.dead_lines.specs.Steps.{Step, Row, Column, multiplier, line_step, back}
+use Rattle.dead_lines.specs.Steps.{Step, Row, Column, line_step, back}
 
 -- THE TABLES: the multiplier of the step for the highest line of a mask, after those for its other lines. For rows it is u², u being what these
 -- make of the line's power of z; for columns it is d^242, d being what the transposed steps make of the symbol whose trace with y is y's digit.

@@ -6,13 +6,12 @@ use Rattle.std.specs.Prelude.{Bool, ◌&&◌, leb}
 use Rattle.std.proofs.Math.Bool.{cond}
 use mathlib.Core.List.{List}
 use Rattle.std.proofs.Math.Option.{Option, none}
-use Prim.Native.Nat.{ℕ, suc, ◌-◌, ◌/◌, ◌%◌}
+use Prim.Native.Nat.{ℕ, suc, ◌/◌, ◌%◌}
 use Rattle.std.proofs.Math.Dec.{eqb}
 use Rattle.algebra.specs.Field.{times, risen, small, gamma}
 use Rattle.algebra.specs.Lists.{table}
 use Rattle.algebra.specs.SmallField.{high}
-use Rattle.rank.specs.Definitions.{at, rank}
-use Rattle.coding.specs.Coefficients.{coefficients, read}
+use Rattle.coding.specs.Coefficients.{read}
 use Rattle.coding.specs.Options.{first_of}
 use Rattle.coding.specs.Window.{determinant}
 use Rattle.coding.specs.Residual.{residual}
@@ -21,7 +20,7 @@ use Rattle.dead_lines.specs.Struck.{dead_lines}
 use Rattle.dead_lines.specs.DecodeDead.{if_near_dead}
 use Rattle.dead_lines.specs.Steps.{unstepped}
 use Rattle.dead_lines.specs.Multipliers.{steps}
-use Rattle.dead_lines.specs.Hidden.{less_top, known}
+use Rattle.dead_lines.specs.Hidden.{less_top}
 
 -- THE MESSAGE'S COEFFICIENTS, all steps made, from those of the card: number i less the error's, whose rank is at most 2, 1 or 0
 unfoldable pub solution : (n : ℕ) → (r : ℕ → ℕ) → (i : ℕ) → ℕ

@@ -11,7 +11,6 @@ use Rattle.writer.specs.Writing.{book_bytes, write_refusal}
 use Rattle.writer.specs.Holding.{Bytes, Clean}
 use Rattle.writer.specs.Shown.{Shows}
 use Rattle.writer.specs.Held.{Held}
-use Rattle.writer.proofs.Held.{never_empty}
 use Rattle.writer.specs.Again.{Again}
 use Rattle.demands.specs.Demands.{opening_refusal, PullSays, InRange, ReadSays, writing_refusal}
 

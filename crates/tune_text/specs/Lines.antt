@@ -1,12 +1,11 @@
 -- The lines of a text one by one, as the loops go through them.
 -- Main: Found, card_in, fault_of.
-use Rattle.std.specs.Prelude.{◌≡◌, Bool, true, false, List, ◌∷◌, ℕ, ◌+◌, ◌-◌, ◌≤◌, ◌<◌, length, drop}
+use Rattle.std.specs.Prelude.{◌≡◌, Bool, true, false, List, ◌∷◌, ℕ, ◌+◌, ◌≤◌, ◌<◌, length, drop}
 use Rattle.tune_text.specs.declared.lines.Fault.{Fault}
 use Rattle.tune_text.specs.declared.lines.Fault.TheVariants.{Early}
 use Rattle.tune_text.specs.declared.lines.Line.{Line}
 use Rattle.tune_text.specs.declared.lines.Line.TheVariants.{Nothing, Tune, Strike, Wrong}
 use Rattle.tune_text.specs.declared.scanning.Here.{Here}
-use Rattle.tune_text.specs.Words.{lines}
 use Rattle.tune_text.specs.Reading.{lines_said}
 
 -- THE LINE HERE was found: the lines from this place on are it and those from the next place on

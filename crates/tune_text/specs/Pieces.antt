@@ -1,6 +1,6 @@
 -- Pieces one by one: where the first ends, and the pieces of the rest; and words, which are pieces that are not empty.
 -- Main: ends_at, after_word.
-use Rattle.std.specs.Prelude.{Bool, cond, ℕ, suc, ◌-◌, drop}
+use Rattle.std.specs.Prelude.{Bool, cond, ℕ, suc, drop}
 use mathlib.Core.List.{List, [], ◌∷◌}
 use Rattle.std.proofs.Math.ListN.{take}
 use Rattle.tune_text.specs.Words.{blank}

@@ -3,7 +3,7 @@
 -- Main: Again.
 use Rattle.std.specs.Prelude.{◌≡◌}
 use mathlib.Core.List.{List}
-use Prim.Native.Nat.{ℕ, ◌-◌}
+use Prim.Native.Nat.{ℕ}
 use Rattle.std.proofs.Math.ListN.{length}
 use Rattle.strike.specs.Turns.{strike_numbers}
 use Rattle.book.specs.Layout.{tune_numbers, card_counts}

@@ -3,7 +3,7 @@
 -- Main: undamaged, Shows.
 use Rattle.std.specs.Prelude.{◌≡◌, take}
 use mathlib.Core.List.{List}
-use Prim.Native.Nat.{ℕ, suc, ◌+◌, ◌-◌, ◌<◌}
+use Prim.Native.Nat.{ℕ, suc, ◌+◌, ◌<◌}
 use Rattle.std.proofs.Math.ListN.{length, get_or}
 use Rattle.refusal.specs.Replies.{Reply, replied}
 use Rattle.rank.specs.Weight.{no_weight}

@@ -1,7 +1,6 @@
 -- `capi::give` meets its contract: the value is given exactly where there is no refusal.
 use mathlib.Core.Path.{ap}
 use Prim.Native.Nat.{ℕ}
-use borrow.Author.Rules.{rules}
 use Rattle.refusal.specs.Replies.{reply}
 use Rattle.capi.specs.Given.{refused_given, value_given}
 use Rattle.capi.proofs.give.Goals as goal

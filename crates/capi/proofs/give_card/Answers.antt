@@ -1,7 +1,6 @@
 -- `capi::give_card` meets its contract: the card, or 0 for none, is given exactly where there is no refusal.
 use mathlib.Core.Path.{ap}
 use mathlib.Core.Option.{none, some}
-use borrow.Author.Rules.{rules}
 use Rattle.book.specs.Bodies.{worn_reply}
 use Rattle.algebra.specs.Search.{or_zero}
 use Rattle.capi.specs.Given.{refused_given, value_given}

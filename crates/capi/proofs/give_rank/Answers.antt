@@ -1,6 +1,5 @@
 -- `capi::give_rank` meets its contract: the value is given exactly where there is no refusal.
 use mathlib.Core.Path.{ap}
-use borrow.Author.Rules.{rules}
 use Rattle.rank.specs.declared.Weight.{Weight}
 use Rattle.rank.specs.Weight.{no_weight, weight_reply}
 use Rattle.capi.specs.Given.{refused_given, value_given}

@@ -1,6 +1,5 @@
 -- `capi::lucetcoral_book_size` meets its contract: what the answer says is given.
 use Prim.Native.Nat.{ℕ}
-use borrow.Author.Rules.{rules}
 use Rattle.capi.specs.Given.{given}
 use Rattle.capi.proofs.lucetcoral_book_size.Goals as goal
 

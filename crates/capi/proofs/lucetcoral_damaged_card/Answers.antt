@@ -1,6 +1,5 @@
 -- `capi::lucetcoral_damaged_card` meets its contract: what the answer says is given.
 use mathlib.Core.Option.{none}
-use borrow.Author.Rules.{rules}
 use Rattle.algebra.specs.Search.{or_zero}
 use Rattle.capi.specs.Given.{given}
 use Rattle.capi.proofs.lucetcoral_damaged_card.Goals as goal

@@ -1,7 +1,6 @@
 -- `capi::lucetcoral_decode` meets its contract: the lists are decode's, and the rank of what the answer holds is given.
 use Rattle.rank.specs.declared.Weight.{Weight}
 use Rattle.rank.specs.Weight.{no_weight}
-use borrow.Author.Rules.{rules}
 use Rattle.capi.specs.Given.{given}
 use Rattle.capi.proofs.lucetcoral_decode.Goals as goal
 

@@ -1,6 +1,5 @@
 -- `capi::lucetcoral_decode_dead` meets its contract: the lists are decode_dead's, and the rank that it answers is given.
 use Prim.Native.Nat.{ℕ}
-use borrow.Author.Rules.{rules}
 use Rattle.capi.specs.Given.{given}
 use Rattle.capi.proofs.lucetcoral_decode_dead.Goals as goal
 

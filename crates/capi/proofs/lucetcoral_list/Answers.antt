@@ -1,6 +1,5 @@
 -- `capi::lucetcoral_list` meets its contract: the length is given exactly where there is no refusal.
 use Prim.Native.Nat.{ℕ}
-use borrow.Author.Rules.{rules}
 use Rattle.capi.specs.Given.{given}
 use Rattle.capi.proofs.lucetcoral_list.Goals as goal
 

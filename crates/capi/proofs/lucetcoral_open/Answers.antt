@@ -1,6 +1,5 @@
 -- `capi::lucetcoral_open` meets its contract: what the answer says is given.
 use Prim.Native.Nat.{ℕ}
-use borrow.Author.Rules.{rules}
 use Rattle.capi.specs.Given.{given}
 use Rattle.capi.proofs.lucetcoral_open.Goals as goal
 

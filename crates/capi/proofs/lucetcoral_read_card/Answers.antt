@@ -1,5 +1,4 @@
 -- `capi::lucetcoral_read_card` meets its contract: strike and damage are given exactly where there is no refusal.
-use borrow.Author.Rules.{rules}
 use Rattle.capi.specs.Given.{reads_refused, reads_strike}
 use Rattle.capi.proofs.lucetcoral_read_card.Goals as goal
 

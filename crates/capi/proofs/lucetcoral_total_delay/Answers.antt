@@ -1,6 +1,5 @@
 -- `capi::lucetcoral_total_delay` meets its contract: what the answer says is given.
 use Prim.Native.Nat.{ℕ}
-use borrow.Author.Rules.{rules}
 use Rattle.capi.specs.Given.{reply_given}
 use Rattle.capi.proofs.lucetcoral_total_delay.Goals as goal
 

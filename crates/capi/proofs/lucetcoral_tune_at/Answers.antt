@@ -1,5 +1,4 @@
 -- `capi::lucetcoral_tune_at` meets its contract: number and cards are given exactly where there is no refusal.
-use borrow.Author.Rules.{rules}
 use Rattle.capi.specs.Given.{lists_refused, lists_tune}
 use Rattle.capi.proofs.lucetcoral_tune_at.Goals as goal
 

@@ -2,9 +2,8 @@
 use mathlib.Core.Path.{◌≡◌, sym, ap, ◌∙◌}
 use native.Mathlib.Omega.{arith}
 use lib.ListN.{length}
-use borrow.Author.Rules.{rules}
 use Rattle.refusal.specs.Replies.{answer_refused, answer_value}
-use Rattle.book.specs.Pull.{pull_refusal, pulled}
+use Rattle.book.specs.Pull.{pull_refusal}
 use Rattle.book.specs.Pulled.{There}
 use Rattle.book.proofs.Pulled.{pulls_only}
 use Rattle.capi.specs.Given.{unless_none, unless_same, pulled_short}

@@ -1,6 +1,5 @@
 -- `capi::lucetcoral_wear` meets its contract: sum and first card are given exactly where there is no refusal.
 use mathlib.Core.Path.{ap}
-use borrow.Author.Rules.{rules}
 use Rattle.wear.specs.declared.runs.Run.{Run}
 use Rattle.wear.specs.Wear.{no_run, wear_reply}
 use Rattle.capi.specs.Given.{part_refused, part_given}

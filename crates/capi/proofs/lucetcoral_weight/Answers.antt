@@ -1,7 +1,6 @@
 -- `capi::lucetcoral_weight` meets its contract: the rank of what the answer holds is given.
 use Rattle.rank.specs.declared.Weight.{Weight}
 use Rattle.rank.specs.Weight.{no_weight}
-use borrow.Author.Rules.{rules}
 use Rattle.capi.specs.Given.{given}
 use Rattle.capi.proofs.lucetcoral_weight.Goals as goal
 

@@ -3,7 +3,6 @@ use mathlib.Core.Path.{ap, ◌∙◌}
 use lib.IntN.{ℤ}
 use mir.Syntax.{w16}
 use mir.ValLaws.{to_z-of_z}
-use borrow.Author.Rules.{rules}
 use Rattle.refusal.specs.Replies.{reply_with}
 use Rattle.levels.specs.Levels.{symbol_of}
 use Rattle.cable.specs.Operations.{symbol_refusal}

@@ -1,9 +1,6 @@
 -- `lists::any_above` meets its contract. The loop: what is left to look at decides.
-use mathlib.Core.Path.{◌≡◌, refl, sym, ◌∙◌}
-use Prim.Native.Nat.{◌-◌}
+use mathlib.Core.Path.{refl, sym, ◌∙◌}
 use lib.Dec.{ltb}
-use lib.ListN.{length, drop}
-use borrow.Author.Rules.{rules}
 use borrow.Author.Tests.{lt-ltb, le-ltb}
 use Rattle.algebra.specs.Tests.{any_above}
 use Rattle.lists.specs.Scanning.{any_next, any_here, any_end}

@@ -1,10 +1,7 @@
 -- `lists::fill` meets its contract. The loop: the list begins with what was taken, and goes on as it was.
-use mathlib.Core.Path.{◌≡◌, refl}
+use mathlib.Core.Path.{◌≡◌}
 use Prim.Native.Nat.{◌≤◌, ◌-◌}
-use native.Mathlib.Omega.{arith}
-use lib.ListN.{length, take, length-set}
-use borrow.Author.Rules.{rules}
-use Rattle.lists.specs.Filling.{filled_next, filled_end}
+use lib.ListN.{length, take}
 use Rattle.lists.proofs.fill.Given as goal
 
 abbrev pub invariant-loop-i : goal.invariant-loop-i

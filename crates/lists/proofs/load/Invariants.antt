@@ -1,10 +1,7 @@
 -- `lists::load` meets its contract. The loop: the array begins with what was taken.
-use mathlib.Core.Path.{◌≡◌, refl}
+use mathlib.Core.Path.{◌≡◌}
 use Prim.Native.Nat.{◌≤◌, ◌-◌}
-use native.Mathlib.Omega.{arith}
-use lib.ListN.{length, take, length-set}
-use borrow.Author.Rules.{rules}
-use Rattle.lists.specs.Filling.{filled_next, filled_all}
+use lib.ListN.{length, take}
 use Rattle.lists.proofs.load.Given as goal
 
 abbrev pub invariant-loop-i : goal.invariant-loop-i

@@ -1,8 +1,6 @@
 -- `rank::weigh` meets its contract: the tests in their order, and the weight of the list's six entries.
-use mathlib.Core.Path.{◌≡◌, ap, ◌∙◌}
-use lib.ListN.{length}
+use mathlib.Core.Path.{ap, ◌∙◌}
 use native.Mathlib.Omega.{arith}
-use borrow.Author.Rules.{rules}
 use Rattle.rank.specs.Arrays.{six}
 use Rattle.rank.specs.Weight.{weight_of, weighed_length, weighed_range, weighed_card}
 use Rattle.rank.proofs.weigh.Goals as goal

@@ -1,6 +1,5 @@
 -- `rank::weight_of` meets its contract: six entries are the array.
 use mathlib.Core.Path.{ap, ◌∙◌}
-use borrow.Author.Rules.{rules}
 use Rattle.rank.specs.Arrays.{six}
 use Rattle.rank.specs.Weight.{weight_of}
 use Rattle.rank.proofs.weight_of.Goals as goal

@@ -1,8 +1,6 @@
 -- `rank::weight_of_six` meets its contract: zeros have rank 0, and elimination on the square chooses as many rows as the rank (`chosen_rank`).
 use mathlib.Core.Path.{refl, sym, ap, ◌∙◌}
 use lib.ListN.{length}
-use borrow.Author.Rules.{rules}
-use Rattle.rank.specs.Arrays.{zeros_rank}
 use Rattle.rank.specs.Elimination.{pivot_log}
 use Rattle.rank.specs.DigitSquare.{square_settled}
 use Rattle.rank.specs.PivotColumns.{chosen_rank}

@@ -1,7 +1,6 @@
 -- `report::write_all` meets its contract: it goes by what `open` answers, as `report` does.
 use mathlib.Core.Path.{◌≡◌, ap}
 use native.Mathlib.Omega.{arith}
-use borrow.Author.Rules.{rules}
 use lib.ListN.{length}
 use Rattle.book.specs.Layout.{tunes}
 use Rattle.book.specs.Accepted.{Accepted}

@@ -1,7 +1,6 @@
 -- `report::write_report` meets its contract: where there is room for the longest report there is room for this one.
 use mathlib.Core.Path.{◌≡◌}
 use native.Mathlib.Omega.{arith}
-use borrow.Author.Rules.{rules}
 use lib.ListN.{length}
 use Rattle.refusal.specs.Replies.{reply_with, unless}
 use Rattle.text.proofs.WritingLaws.{room_short, room_enough}

@@ -2,7 +2,6 @@
 use mathlib.Core.Path.{ap}
 use native.Mathlib.Omega.{arith}
 use lib.ListN.{length}
-use borrow.Author.Rules.{rules}
 use Rattle.report.specs.Answers.{kind_listing, kind_wear}
 use Rattle.report.proofs.write_tune.Goals as goal
 

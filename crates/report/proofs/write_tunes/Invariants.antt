@@ -1,9 +1,7 @@
 -- `report::write_tunes` meets its contract: the tunes before entry e were written.
-use Prim.Native.Nat.{◌-◌, ◌<◌}
-use native.Mathlib.Omega.{arith}
+use Prim.Native.Nat.{◌-◌}
 use Rattle.book.specs.Layout.{tunes}
 use Rattle.text.specs.Writing.{Joining}
-use Rattle.text.proofs.WritingLaws.{wrote_length, joining_start, joining_room, joining_next, joining_end}
 use Rattle.report.specs.Reports.{tune_report}
 use Rattle.report.proofs.write_tunes.Given as goal
 

@@ -1,7 +1,6 @@
 -- `strike::strike_message` meets its contract: numbers in range fit 16 bits, and the four are those of the definition.
 use mathlib.Core.Path.{refl}
 use native.Mathlib.Omega.{arith}
-use borrow.Author.Rules.{rules}
 use Rattle.strike.specs.Strikes.{strike_message, range_parts}
 use Rattle.strike.proofs.strike_message.Goals as goal
 

@@ -3,7 +3,6 @@ use Prim.Native.Nat.{ℕ, ◌<◌}
 use native.Mathlib.Omega.{arith}
 use lib.ListN.{get_or}
 use lib.Seq.{get_or-take}
-use borrow.Author.Rules.{rules}
 use Rattle.rank.specs.Definitions.{at}
 use Rattle.strike.specs.Strikes.{strike_of, value_below}
 use Rattle.strike.proofs.strike_of.Goals as goal

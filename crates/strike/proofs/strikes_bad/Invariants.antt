@@ -1,10 +1,8 @@
 -- `strike::strikes_bad` meets its contract: the numbers that are left, under the bounds as they stand, decide.
-use mathlib.Core.Path.{◌≡◌, refl, sym, ◌∙◌}
+use mathlib.Core.Path.{◌≡◌}
 use Prim.Native.Nat.{◌-◌}
-use native.Mathlib.Omega.{arith}
 use lib.ListN.{length, drop}
-use borrow.Author.Rules.{rules}
-use Rattle.strike.specs.Turns.{any_beyond, strikes_bad, beyond_next, beyond_here, beyond_end}
+use Rattle.strike.specs.Turns.{any_beyond, strikes_bad}
 use Rattle.strike.proofs.strikes_bad.Given as goal
 
 abbrev pub invariant-loop-i : goal.invariant-loop-i

@@ -1,7 +1,6 @@
 -- `wear_lines::write_run` meets its contract: the parts of the line one after another.
 use native.Mathlib.Omega.{arith}
 use lib.ListN.{length-append}
-use borrow.Author.Rules.{rules}
 use Rattle.text.proofs.WritingLaws.{wrote_then}
 use Rattle.wear_lines.specs.WearLines.{run_line}
 use Rattle.wear_lines.proofs.write_run.Goals as goal

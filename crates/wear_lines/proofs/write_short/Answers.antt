@@ -1,7 +1,6 @@
 -- `wear_lines::write_short` meets its contract: the number, then the word and the end of the line.
 use native.Mathlib.Omega.{arith}
 use lib.ListN.{length-append}
-use borrow.Author.Rules.{rules}
 use Rattle.text.proofs.WritingLaws.{wrote_then}
 use Rattle.wear_lines.specs.WearLines.{short_line}
 use Rattle.wear_lines.proofs.write_short.Goals as goal

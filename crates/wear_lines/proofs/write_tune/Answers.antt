@@ -2,12 +2,8 @@
 use mathlib.Core.Path.{◌≡◌, ap}
 use native.Mathlib.Omega.{arith}
 use lib.ListN.{length}
-use borrow.Author.Rules.{rules}
-use Rattle.refusal.specs.Replies.{reply_with}
-use Rattle.book.specs.Layout.{part_of}
 use Rattle.book.specs.Entries.{entry_parts}
-use Rattle.wear.specs.Wear.{worst_run, wear_refusal, no_run, wear_reply}
-use Rattle.wear_lines.specs.WearLines.{width, run_line, short_line, wear_line}
+use Rattle.wear_lines.specs.WearLines.{run_line, short_line, wear_line}
 use Rattle.wear_lines.specs.Lines.{line_run, line_short}
 use Rattle.wear_lines.proofs.write_tune.Goals as goal
 use Rattle.wear_lines.proofs.write_tune.Goals.{In-Refused, In-Run}

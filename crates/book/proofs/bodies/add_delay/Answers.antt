@@ -1,7 +1,6 @@
 -- `book::bodies::add_delay` meets its contract: a refusal stays, a refused card is one, and the delay of a strike is added.
 use mathlib.Core.Path.{ap}
 use native.Mathlib.Omega.{arith}
-use borrow.Author.Rules.{rules}
 use Rattle.refusal.specs.declared.Answer.{Answer}
 use Rattle.refusal.specs.Replies.{reply}
 use Rattle.book.specs.declared.reading.Reading.{Reading}

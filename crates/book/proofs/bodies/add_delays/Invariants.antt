@@ -1,13 +1,8 @@
 -- `book::bodies::add_delays` meets its contract: what is said of the cards before this one is said of all where it is a refusal, or none is left.
-use mathlib.Core.Path.{sym, ◌∙◌}
 use Prim.Native.Nat.{◌+◌, ◌-◌}
-use native.Mathlib.Omega.{arith}
-use borrow.Author.Rules.{rules}
-use borrow.Author.Tests.{eqb-false, not-true}
 use Rattle.refusal.specs.Replies.{reply}
 use Rattle.book.specs.Reading.{cards_in}
-use Rattle.book.specs.Bounds.{good_length}
-use Rattle.book.specs.Delays.{Adding, adding_start, adding_next, adding_fits, adding_end, adding_refused}
+use Rattle.book.specs.Delays.{Adding}
 use Rattle.book.proofs.bodies.add_delays.Given as goal
 
 abbrev pub invariant-loop-n : goal.invariant-loop-n

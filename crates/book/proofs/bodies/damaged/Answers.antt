@@ -1,5 +1,4 @@
 -- `book::bodies::damaged` meets its contract: a refusal's number is not 0.
-use borrow.Author.Rules.{rules}
 use Rattle.book.specs.Damaged.{flawed_strike, flawed_refused}
 use Rattle.book.proofs.bodies.damaged.Goals as goal
 

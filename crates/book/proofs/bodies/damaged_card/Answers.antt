@@ -1,8 +1,6 @@
 -- `book::bodies::damaged_card` meets its contract: the test, then the search.
 use mathlib.Core.Path.{◌≡◌, sym, ◌∙◌}
 use mathlib.Core.Bool.{true}
-use borrow.Author.Rules.{rules}
-use borrow.Author.Tests.{not-true, not-false}
 use Rattle.refusal.specs.Replies.{reply_with}
 use Rattle.book.specs.Layout.{body_good}
 use Rattle.book.specs.Bodies.{body_refusal}

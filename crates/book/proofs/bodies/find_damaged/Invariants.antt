@@ -1,13 +1,7 @@
 -- `book::bodies::find_damaged` meets its contract: no card before this one is damaged.
-use mathlib.Core.Path.{◌≡◌, sym, ◌∙◌, ap}
 use Prim.Native.Nat.{◌+◌, ◌-◌, ◌≤◌}
-use native.Mathlib.Omega.{arith}
-use borrow.Author.Rules.{rules}
-use Rattle.algebra.specs.Search.{NoneIn, none_start, none_next}
-use Rattle.refusal.specs.Replies.{replied}
-use Rattle.book.specs.Bodies.{flawed, is_damaged}
-use Rattle.book.specs.Bounds.{good_length}
-use Rattle.book.specs.Damaged.{damaged_first, damaged_none}
+use Rattle.algebra.specs.Search.{NoneIn}
+use Rattle.book.specs.Bodies.{is_damaged}
 use Rattle.book.proofs.bodies.find_damaged.Given as goal
 
 abbrev pub invariant-loop-number : goal.invariant-loop-number

@@ -1,5 +1,4 @@
 -- `book::bodies::refused` meets its contract: a refusal's number is not 0.
-use borrow.Author.Rules.{rules}
 use Rattle.refusal.specs.Replies.{number_not_zero}
 use Rattle.book.proofs.bodies.refused.Goals as goal
 

@@ -1,7 +1,5 @@
 -- `book::bodies::total_delay` meets its contract: the test, then the sum.
 use mathlib.Core.Path.{sym, ◌∙◌}
-use borrow.Author.Rules.{rules}
-use borrow.Author.Tests.{not-true, not-false}
 use Rattle.book.specs.Delays.{total_bad}
 use Rattle.book.proofs.bodies.total_delay.Goals as goal
 

@@ -1,14 +1,11 @@
 -- `book::contents::bodies_bad` meets its contract: the test from here on is the whole test. A body has at most 65,535 cards, 786,420 bytes,
 -- so the end that is counted does not wrap.
-use mathlib.Core.Path.{◌≡◌, ◌∙◌}
-use mathlib.Core.Bool.{not}
-use Prim.Native.Nat.{◌+◌, ◌*◌, ◌-◌, ◌≤◌}
+use mathlib.Core.Path.{◌∙◌}
 use native.Mathlib.Omega.{arith}
 use borrow.Author.Rules.{rules}
 use borrow.Author.Tests.{le-leb, lt-leb, eq-eqb, ne_eqb}
 use Rattle.book.specs.Layout.{cards, offset}
-use Rattle.book.specs.Open.{bodies_bad}
-use Rattle.book.specs.ContentsLoops.{bodies_on, bodies_start, bodies_next, bodies_end}
+use Rattle.book.specs.ContentsLoops.{bodies_start, bodies_next, bodies_end}
 use Rattle.book.proofs.contents.bodies_bad.Goals as goal
 
 pub returns-then-cards-lt1 : goal.returns-then-cards-lt1

@@ -1,13 +1,9 @@
 -- `book::contents::numbers_bad` meets its contract: the test from here on is the whole test.
-use mathlib.Core.Path.{◌≡◌}
-use mathlib.Core.Bool.{not}
-use Prim.Native.Nat.{◌-◌, ◌≤◌}
 use native.Mathlib.Omega.{arith}
 use borrow.Author.Rules.{rules}
 use borrow.Author.Tests.{le-leb, lt-leb}
 use Rattle.book.specs.Layout.{tune_number}
-use Rattle.book.specs.Open.{numbers_bad}
-use Rattle.book.specs.ContentsLoops.{numbers_on, numbers_start, numbers_next, numbers_end}
+use Rattle.book.specs.ContentsLoops.{numbers_start, numbers_next, numbers_end}
 use Rattle.book.proofs.contents.numbers_bad.Goals as goal
 
 pub loop-e-init : goal.loop-e-init

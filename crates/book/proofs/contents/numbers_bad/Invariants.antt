@@ -2,12 +2,8 @@
 use mathlib.Core.Path.{◌≡◌}
 use mathlib.Core.Bool.{not}
 use Prim.Native.Nat.{◌-◌, ◌≤◌}
-use native.Mathlib.Omega.{arith}
-use borrow.Author.Rules.{rules}
-use borrow.Author.Tests.{le-leb, lt-leb}
-use Rattle.book.specs.Layout.{tune_number}
 use Rattle.book.specs.Open.{numbers_bad}
-use Rattle.book.specs.ContentsLoops.{numbers_on, numbers_start, numbers_next, numbers_end}
+use Rattle.book.specs.ContentsLoops.{numbers_on}
 use Rattle.book.proofs.contents.numbers_bad.Given as goal
 
 abbrev pub invariant-loop-e : goal.invariant-loop-e

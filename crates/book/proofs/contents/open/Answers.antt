@@ -2,7 +2,6 @@
 use mathlib.Core.Path.{◌≡◌}
 use mathlib.Core.Bool.{true, false}
 use native.Mathlib.Omega.{arith}
-use borrow.Author.Rules.{rules}
 use Rattle.refusal.specs.Replies.{reply_with}
 use Rattle.book.specs.Open.{size_bad, numbers_bad, bodies_bad, contents_refusal}
 use Rattle.book.proofs.Accepted.{empty_accepted, empty_tunes, some_tested, size_within}

@@ -1,7 +1,6 @@
 -- `book::contents::size_bad` meets its contract: each answer is that of the tests on its way.
 use native.Mathlib.Omega.{arith}
 use lib.ListN.{length}
-use borrow.Author.Rules.{rules}
 use borrow.Author.Tests.{lt-ltb, le-ltb}
 use Rattle.book.specs.Open.{size_bad}
 use Rattle.book.proofs.contents.size_bad.Goals as goal

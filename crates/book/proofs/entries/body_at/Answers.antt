@@ -1,7 +1,6 @@
 -- `book::entries::body_at` meets its contract: the part of an entry of an accepted book lies within it.
 use native.Mathlib.Nat.{add-sub_cancel_left}
 use native.Mathlib.Omega.{arith}
-use borrow.Author.Rules.{rules}
 use Rattle.book.specs.Layout.{part_of}
 use Rattle.book.proofs.Accepted.{entries_within, part_within}
 use Rattle.book.proofs.entries.body_at.Goals as goal

@@ -1,5 +1,4 @@
 -- `book::entries::offset_at` meets its contract: the bytes of an entry of an accepted book are there.
-use borrow.Author.Rules.{rules}
 use Rattle.book.proofs.Accepted.{entries_within}
 use Rattle.book.proofs.entries.offset_at.Goals as goal
 

@@ -1,7 +1,6 @@
 -- `book::entries::tune_at` meets its contract: it goes by what `open` answers and by the count of tunes, as `tune_at` does.
 use mathlib.Core.Path.{◌≡◌}
 use native.Mathlib.Omega.{arith}
-use borrow.Author.Rules.{rules}
 use borrow.Author.Tests.{lt-ltb, le-ltb, eq-eqb, ne_eqb}
 use Rattle.refusal.specs.Replies.{reply_with, answer_refused, answer_value}
 use Rattle.book.specs.Layout.{tunes}

@@ -1,10 +1,9 @@
 -- `book::pull::find_entry` meets its contract: no entry before this one bears the number.
 use mathlib.Core.Path.{sym, ◌∙◌}
-use Prim.Native.Nat.{◌-◌, ◌≤◌}
 use native.Mathlib.Omega.{arith}
 use borrow.Author.Rules.{rules}
 use borrow.Author.Tests.{eq-eqb, ne_eqb}
-use Rattle.algebra.specs.Search.{NoneIn, none_start, none_next}
+use Rattle.algebra.specs.Search.{none_start, none_next}
 use Rattle.book.specs.Layout.{tune_number}
 use Rattle.book.specs.Pull.{bears}
 use Rattle.book.specs.ContentsLoops.{entry_first, entry_none}

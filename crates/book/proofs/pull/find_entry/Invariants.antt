@@ -1,13 +1,7 @@
 -- `book::pull::find_entry` meets its contract: no entry before this one bears the number.
-use mathlib.Core.Path.{sym, ◌∙◌}
 use Prim.Native.Nat.{◌-◌, ◌≤◌}
-use native.Mathlib.Omega.{arith}
-use borrow.Author.Rules.{rules}
-use borrow.Author.Tests.{eq-eqb, ne_eqb}
-use Rattle.algebra.specs.Search.{NoneIn, none_start, none_next}
-use Rattle.book.specs.Layout.{tune_number}
+use Rattle.algebra.specs.Search.{NoneIn}
 use Rattle.book.specs.Pull.{bears}
-use Rattle.book.specs.ContentsLoops.{entry_first, entry_none}
 use Rattle.book.proofs.pull.find_entry.Given as goal
 
 abbrev pub invariant-loop-e : goal.invariant-loop-e

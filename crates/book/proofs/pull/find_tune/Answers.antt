@@ -1,6 +1,5 @@
 -- `book::pull::find_tune` meets its contract: it refuses as `tune_place` does.
 use mathlib.Core.Path.{sym}
-use borrow.Author.Rules.{rules}
 use Rattle.refusal.specs.Replies.{answer_refused, answer_value}
 use Rattle.book.proofs.pull.find_tune.Goals as goal
 

@@ -1,6 +1,5 @@
 -- `book::pull::tune_body` meets its contract: the entry that `tune_place` gives is in an accepted book and bears the number.
 use mathlib.Core.Path.{sym, ◌∙◌}
-use borrow.Author.Rules.{rules}
 use Rattle.refusal.specs.Replies.{answer_refused, answer_value}
 use Rattle.book.specs.Pulled.{There}
 use Rattle.book.proofs.Pulled.{pulls_only, refused_empty}

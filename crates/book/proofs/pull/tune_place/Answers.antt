@@ -1,7 +1,6 @@
 -- `book::pull::tune_place` meets its contract: it goes by what `open` and `find_entry` answer, as `pull_refusal` does.
 use mathlib.Core.Path.{◌≡◌, sym, ◌∙◌, ap}
 use native.Mathlib.Omega.{arith}
-use borrow.Author.Rules.{rules}
 use borrow.Author.Tests.{ne_eqb}
 use Rattle.refusal.specs.Replies.{reply_with, answer_refused, answer_value}
 use Rattle.book.specs.declared.pull.Place.{Place}

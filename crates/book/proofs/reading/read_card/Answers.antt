@@ -2,7 +2,6 @@
 use mathlib.Core.Path.{◌≡◌, sym, ◌∙◌}
 use mathlib.Core.Bool.{true, false}
 use borrow.Author.Rules.{rules}
-use borrow.Author.Tests.{not-false}
 use Rattle.book.specs.Layout.{body_good}
 use Rattle.book.specs.Reading.{no_card}
 use Rattle.book.specs.CardReading.{read_bad, read_past, read_there, card_there}

@@ -1,6 +1,5 @@
 -- `book::reading::symbols` meets its contract: the six symbols are two bytes each, one after another.
 use mathlib.Core.Path.{sym}
-use borrow.Author.Rules.{rules}
 use Rattle.book.specs.CardReading.{twelve_bytes}
 use Rattle.book.proofs.reading.symbols.Goals as goal
 

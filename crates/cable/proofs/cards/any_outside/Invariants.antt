@@ -1,13 +1,8 @@
 -- `cable::cards::any_outside` meets its contract. The loop: what is left to look at decides.
-use mathlib.Core.Path.{◌≡◌, refl, sym, ap, ◌∙◌}
+use mathlib.Core.Path.{◌≡◌}
 use Prim.Native.Nat.{◌-◌}
-use lib.IntN.{pos}
-use lib.ListN.{length, get_or, drop}
-use mir.Syntax.{w16}
-use mir.ValLaws.{to_z-of_z}
-use borrow.Author.Rules.{rules}
+use lib.ListN.{length, drop}
 use Rattle.algebra.specs.Tests.{any}
-use Rattle.lists.specs.Scanning.{any_next, any_here, any_end}
 use Rattle.levels.specs.Levels.{outside}
 use Rattle.cable.proofs.cards.any_outside.Given as goal
 

@@ -1,13 +1,11 @@
 -- `cable::cards::fill_levels` meets its contract. The loop: the list begins with the signed numbers of the first symbols.
-use mathlib.Core.Path.{◌≡◌, refl, sym, ◌∙◌}
+use mathlib.Core.Path.{refl, sym, ◌∙◌}
 use mathlib.Core.List.{map}
-use Prim.Native.Nat.{◌≤◌, ◌-◌}
 use native.Mathlib.Omega.{arith}
-use lib.ListN.{length, take, length-set, length-map, get_or-map}
+use lib.ListN.{length, length-set, length-map, get_or-map}
 use lib.Seq.{take_all}
 use mir.Syntax.{w16}
 use mir.ValLaws.{to_z-of_z}
-use borrow.Author.Rules.{rules}
 use Rattle.lists.specs.Filling.{filled_with, filled_end}
 use Rattle.levels.specs.Levels.{signed_of}
 use Rattle.cable.proofs.cards.fill_levels.Goals as goal

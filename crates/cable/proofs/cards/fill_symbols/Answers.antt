@@ -2,14 +2,12 @@
 use mathlib.Core.Path.{◌≡◌, refl, sym, ap, ◌∙◌}
 use mathlib.Core.Bool.{false}
 use mathlib.Core.List.{map}
-use Prim.Native.Nat.{◌≤◌, ◌-◌}
 use native.Mathlib.Omega.{arith}
 use lib.IntN.{pos}
-use lib.ListN.{length, get_or, take, length-set, length-map, get_or-map}
+use lib.ListN.{length, get_or, length-set, length-map, get_or-map}
 use lib.Seq.{take_all}
 use mir.Syntax.{w16}
 use mir.ValLaws.{to_z-of_z}
-use borrow.Author.Rules.{rules}
 use Rattle.algebra.specs.Lists.{all_at}
 use Rattle.algebra.specs.Tests.{any_none}
 use Rattle.lists.specs.Filling.{filled_with, filled_end}

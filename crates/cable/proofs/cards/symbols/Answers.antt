@@ -3,7 +3,6 @@ use mathlib.Core.Path.{◌≡◌, sym, ap, ◌∙◌}
 use mathlib.Core.Bool.{Bool, false, not}
 use mathlib.Core.List.{map}
 use lib.ListN.{length}
-use borrow.Author.Rules.{rules}
 use Rattle.algebra.specs.Tests.{any}
 use Rattle.refusal.specs.Replies.{outcome, no_refusal, gives_refused, gives_done}
 use Rattle.codec.specs.Operations.{tests}

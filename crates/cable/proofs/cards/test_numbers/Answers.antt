@@ -1,6 +1,5 @@
 -- `cable::cards::test_numbers` meets its contract: each test on the way decides one test of the definition.
 use mathlib.Core.Path.{sym, ◌∙◌}
-use borrow.Author.Rules.{rules}
 use Rattle.codec.specs.Operations.{tests}
 use Rattle.cable.proofs.cards.test_numbers.Goals as goal
 

@@ -5,7 +5,6 @@ use lib.IntN.{ℤ, ◌+ℤ◌, ◌*ℤ◌, nat_abs}
 use mir.Syntax.{w16}
 use mir.Val.{SFits, to_z, of_z}
 use mir.ValLaws.{to_z-of_z}
-use borrow.Author.Rules.{rules}
 use Rattle.levels.specs.Levels.{level}
 use Rattle.cable.specs.Sizes.{term_fits, terms_fit, terms_bound}
 use Rattle.cable.proofs.numbers.add_level.Goals as goal

@@ -1,5 +1,4 @@
 -- `cable::numbers::level` meets its contract: each test decides one of the definition.
-use borrow.Author.Rules.{rules}
 use borrow.Author.Tests.{eq-eqb, ne_eqb}
 use Rattle.levels.specs.Levels.{level}
 use Rattle.cable.proofs.numbers.level.Goals as goal

@@ -5,7 +5,6 @@ use native.Mathlib.Omega.{arith}
 use lib.IntN.{ℤ, pos, nat_abs}
 use mir.Syntax.{w16}
 use mir.Val.{to_z, of_z}
-use borrow.Author.Rules.{rules}
 use Rattle.algebra.specs.Field.{digits_of, digits}
 use Rattle.levels.specs.Levels.{signed_from, signed_of}
 use Rattle.cable.specs.Sizes.{next_term}

@@ -2,7 +2,6 @@
 use mathlib.Core.Path.{sym, ap, ◌∙◌}
 use mir.Syntax.{w16}
 use mir.ValLaws.{to_z-of_z}
-use borrow.Author.Rules.{rules}
 use Rattle.refusal.specs.Replies.{replied, reply_with}
 use Rattle.levels.specs.Levels.{outside, symbol_of}
 use Rattle.cable.specs.Operations.{symbol_refusal}

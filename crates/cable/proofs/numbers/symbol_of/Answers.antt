@@ -5,7 +5,6 @@ use lib.IntN.{ℤ, pos, ◌+ℤ◌, nat_abs}
 use mir.Syntax.{w16}
 use mir.Val.{SFits, to_z, of_z}
 use mir.ValLaws.{to_z-of_z}
-use borrow.Author.Rules.{rules}
 use Rattle.algebra.specs.Field.{add}
 use Rattle.levels.specs.Levels.{symbol_of}
 use Rattle.cable.specs.Sizes.{fits, raised}

@@ -1,10 +1,8 @@
 -- `cable::receiving::fill_received` meets its contract. The loop: the list begins with the first symbols received.
-use mathlib.Core.Path.{◌≡◌, refl, sym, ◌∙◌}
-use Prim.Native.Nat.{◌≤◌, ◌-◌}
+use mathlib.Core.Path.{refl, sym, ◌∙◌}
 use native.Mathlib.Omega.{arith}
-use lib.ListN.{length, take, length-set}
+use lib.ListN.{length-set}
 use lib.Seq.{take_all}
-use borrow.Author.Rules.{rules}
 use Rattle.algebra.specs.Lists.{length_table, at_table}
 use Rattle.lists.specs.Filling.{filled_with, filled_end}
 use Rattle.levels.specs.Levels.{received_symbol, received}

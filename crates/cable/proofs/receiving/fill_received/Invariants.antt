@@ -1,13 +1,8 @@
 -- `cable::receiving::fill_received` meets its contract. The loop: the list begins with the first symbols received.
-use mathlib.Core.Path.{◌≡◌, refl, sym, ◌∙◌}
+use mathlib.Core.Path.{◌≡◌}
 use Prim.Native.Nat.{◌≤◌, ◌-◌}
-use native.Mathlib.Omega.{arith}
-use lib.ListN.{length, take, length-set}
-use lib.Seq.{take_all}
-use borrow.Author.Rules.{rules}
-use Rattle.algebra.specs.Lists.{length_table, at_table}
-use Rattle.lists.specs.Filling.{filled_with, filled_end}
-use Rattle.levels.specs.Levels.{received_symbol, received}
+use lib.ListN.{length, take}
+use Rattle.levels.specs.Levels.{received}
 use Rattle.cable.proofs.receiving.fill_received.Given as goal
 
 abbrev pub invariant-loop-j : goal.invariant-loop-j

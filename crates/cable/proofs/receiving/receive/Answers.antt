@@ -1,6 +1,5 @@
 -- `cable::receiving::receive` meets its contract: the test decides, and then the list is filled.
 use mathlib.Core.Path.{refl, sym, ap}
-use borrow.Author.Rules.{rules}
 use mathlib.Core.Bool.{not}
 use Rattle.refusal.specs.declared.Refusal.TheVariants.{Length}
 use Rattle.refusal.specs.Replies.{gives_refused, gives_done}

@@ -1,6 +1,5 @@
 -- `cable::receiving::received_symbol` meets its contract: six samples, each with its digit.
 use Prim.Native.Nat.{◌+◌, ◌*◌}
-use borrow.Author.Rules.{rules}
 use Rattle.cable.specs.Steps.{digit_read, received_is}
 use Rattle.cable.proofs.receiving.received_symbol.Goals as goal
 

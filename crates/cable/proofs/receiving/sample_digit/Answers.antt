@@ -5,7 +5,6 @@ use lib.IntN.{ℤ, pos, negsuc}
 use lib.Signed.{le_z}
 use mir.Syntax.{w16}
 use mir.ValLaws.{to_z-of_z}
-use borrow.Author.Rules.{rules}
 use Rattle.levels.specs.Levels.{level_digit, sample_level, sample_digit}
 use Rattle.cable.proofs.receiving.sample_digit.Goals as goal
 

@@ -4,7 +4,6 @@ use native.Mathlib.Omega.{arith}
 use Rattle.algebra.specs.Lists.{cons}
 use Rattle.rank.specs.Definitions.{difference}
 use Rattle.candidate.specs.Finding.{six_difference}
-use borrow.Author.Rules.{rules}
 use Rattle.candidate.proofs.found.difference.Goals as goal
 
 pub returns : goal.returns

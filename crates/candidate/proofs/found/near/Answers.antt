@@ -3,7 +3,6 @@ use mathlib.Core.Path.{◌≡◌, sym, ap, ◌∙◌}
 use mathlib.Core.List.{List}
 use Prim.Native.Nat.{ℕ, ◌*◌}
 use lib.ListN.{take}
-use borrow.Author.Rules.{rules}
 use Rattle.rank.specs.Definitions.{rank, difference, apart}
 use Rattle.rank.specs.declared.Weight.{Weight}
 use Rattle.rank.specs.Weight.{weight_of, weight_rank}

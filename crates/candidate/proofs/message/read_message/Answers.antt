@@ -1,6 +1,5 @@
 -- `candidate::message::read_message` meets its contract: the numbers but for the last, and that one.
 use Rattle.candidate.specs.Places.{message_is}
-use borrow.Author.Rules.{rules}
 use Rattle.candidate.proofs.message.read_message.Goals as goal
 
 pub returns : goal.returns

@@ -5,7 +5,6 @@ use Rattle.coding.specs.Spectrum.{spectrum}
 use Rattle.coding.specs.WordSpectrum.{message_of, is_message_of}
 use Rattle.coding.specs.Clean.{shaped_is_word}
 use Rattle.candidate.specs.Places.{read_is, shaped_is}
-use borrow.Author.Rules.{rules}
 use Rattle.candidate.proofs.shape.clean.Goals as goal
 
 pub undamaged-requires : goal.undamaged-requires

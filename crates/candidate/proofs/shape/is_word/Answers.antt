@@ -1,7 +1,6 @@
 -- `candidate::shape::is_word` meets its contract: each test on the way decides one test of the definition.
 use mathlib.Core.Path.{sym, ◌∙◌}
-use borrow.Author.Rules.{rules}
-use borrow.Author.Tests.{eq-eqb, ne_eqb, not-true, not-false}
+use borrow.Author.Tests.{eq-eqb, ne_eqb}
 use Rattle.algebra.specs.SmallField.{high}
 use Rattle.rank.specs.Definitions.{at}
 use Rattle.coding.specs.Clean.{shaped}

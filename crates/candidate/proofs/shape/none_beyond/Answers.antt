@@ -1,7 +1,6 @@
 -- `candidate::shape::none_beyond` meets its contract: the test written out.
 use Rattle.rank.specs.Definitions.{at}
 use Rattle.candidate.specs.Places.{none_written}
-use borrow.Author.Rules.{rules}
 use Rattle.candidate.proofs.shape.none_beyond.Goals as goal
 
 pub returns : goal.returns

@@ -1,7 +1,6 @@
 -- `candidate::shape::same` meets its contract: six equal symbols are the cards.
 use mathlib.Core.Path.{refl, sym, ◌∙◌}
 use native.Mathlib.Omega.{arith}
-use borrow.Author.Rules.{rules}
 use borrow.Author.Tests.{eqb-true}
 use Rattle.algebra.specs.Lists.{cons}
 use Rattle.algebra.specs.Tests.{both}

@@ -3,7 +3,6 @@ use mathlib.Core.Path.{sym, ◌∙◌}
 use Rattle.rank.specs.Weight.{weight_self}
 use Rattle.coding.specs.Clean.{word_decode}
 use Rattle.candidate.specs.Finding.{found_message}
-use borrow.Author.Rules.{rules}
 use Rattle.candidate.proofs.shape.undamaged.Goals as goal
 
 pub returns : goal.returns

@@ -2,7 +2,6 @@
 use mathlib.Core.Path.{refl}
 use native.Mathlib.Omega.{arith}
 use lib.Dec.{lit≤}
-use borrow.Author.Rules.{rules}
 use Rattle.transform.specs.Transforms.{computing_word, ten_added}
 use Rattle.codec.proofs.encoding.add_numbers.Goals as goal
 

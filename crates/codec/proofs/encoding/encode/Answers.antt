@@ -5,7 +5,6 @@ use Prim.Native.Nat.{ℕ, ◌*◌, ◌≤◌}
 use native.Mathlib.Omega.{arith}
 use lib.ListN.{length, take}
 use lib.Seq.{take_all}
-use borrow.Author.Rules.{rules}
 use Rattle.coding.specs.Code.{word, is_message}
 use Rattle.refusal.specs.Replies.{no_refusal}
 use Rattle.codec.specs.Refusals.{encode_passed, encoded_refused, encoded_done}

@@ -1,7 +1,6 @@
 -- `codec::encoding::high_of` meets its contract: a coefficient before the last, or the last.
 use mathlib.Core.Path.{sym}
 use native.Mathlib.Omega.{arith}
-use borrow.Author.Rules.{rules}
 use borrow.Author.Tests.{lt-ltb, le-ltb, eq-eqb}
 use Rattle.transform.specs.Transforms.{high_at}
 use Rattle.codec.proofs.encoding.high_of.Goals as goal

@@ -1,6 +1,5 @@
 -- `codec::encoding::word_of` meets its contract: the symbols of the counts are the word.
 use mathlib.Core.Path.{ap, ◌∙◌}
-use borrow.Author.Rules.{rules}
 use Rattle.transform.specs.Packed.{symbols_of}
 use Rattle.transform.specs.Transforms.{message_small, word_mapped}
 use Rattle.codec.proofs.encoding.word_of.Goals as goal

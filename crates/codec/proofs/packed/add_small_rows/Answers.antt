@@ -1,5 +1,4 @@
 -- `codec::packed::add_small_rows` meets its contract: three digits times their rows, within the bounds.
-use borrow.Author.Rules.{rules}
 use Rattle.transform.specs.Packed.{row_bounded, add_small_rows, small_digits_bounded}
 use Rattle.codec.proofs.packed.add_small_rows.Goals as goal
 

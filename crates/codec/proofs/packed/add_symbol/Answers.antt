@@ -2,7 +2,6 @@
 use mathlib.Core.Path.{◌≡◌}
 use Prim.Native.Nat.{◌+◌, ◌*◌}
 use native.Mathlib.Omega.{arith}
-use borrow.Author.Rules.{rules}
 use Rattle.transform.specs.Packed.{row_bounded, add_three_rows, add_rows, digits_bounded}
 use Rattle.codec.proofs.packed.add_symbol.Goals as goal
 

@@ -2,7 +2,6 @@
 use mathlib.Core.Path.{◌≡◌}
 use Prim.Native.Nat.{◌+◌}
 use native.Mathlib.Omega.{arith}
-use borrow.Author.Rules.{rules}
 use Rattle.transform.specs.Packed.{bounded_at, add_three_rows}
 use Rattle.codec.proofs.packed.add_three_rows.Goals as goal
 

@@ -1,5 +1,4 @@
 -- `codec::packed::digits` meets its contract: each digit is a quotient less three times the next.
-use borrow.Author.Rules.{rules}
 use Rattle.transform.specs.Packed.{digits_are}
 use Rattle.codec.proofs.packed.digits.Goals as goal
 

@@ -1,6 +1,5 @@
 -- `codec::packed::halves` meets its contract: the remainders are those of the definition.
 use mathlib.Core.Path.{ap}
-use borrow.Author.Rules.{rules}
 use Rattle.transform.specs.Remainders.{halved, halves}
 use Rattle.codec.proofs.packed.halves.Goals as goal
 

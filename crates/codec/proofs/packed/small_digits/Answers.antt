@@ -1,5 +1,4 @@
 -- `codec::packed::small_digits` meets its contract: each digit is a quotient less three times the next.
-use borrow.Author.Rules.{rules}
 use Rattle.transform.specs.Packed.{small_digits_are}
 use Rattle.codec.proofs.packed.small_digits.Goals as goal
 

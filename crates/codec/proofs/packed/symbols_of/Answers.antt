@@ -1,6 +1,5 @@
 -- `codec::packed::symbols_of` meets its contract: six symbols of two halves each.
 use mathlib.Core.Path.{refl, ◌∙◌}
-use borrow.Author.Rules.{rules}
 use Rattle.algebra.specs.Lists.{cons}
 use Rattle.transform.specs.Remainders.{symbols_halves}
 use Rattle.codec.proofs.packed.symbols_of.Goals as goal

@@ -1,7 +1,6 @@
 -- `codec::slots::slots_4` meets its contract: the rows are those of the slots, computed, and what they add up to is the slots.
 use mathlib.Core.Path.{ap, ◌∙◌}
 use lib.Dec.{lit≤}
-use borrow.Author.Rules.{rules}
 use Rattle.transform.specs.Packed.{symbols_of}
 use Rattle.transform.specs.Counts.{six_added}
 use Rattle.transform.specs.Slots.{slot_map, computing_slots, slot_mapped}

@@ -1,6 +1,5 @@
 -- `codec::spectra::spectrum` meets its contract: the rows are those of the spectrum, computed, and what they add up to is the spectrum.
 use mathlib.Core.Path.{ap, ◌∙◌}
-use borrow.Author.Rules.{rules}
 use Rattle.transform.specs.Packed.{symbols_of}
 use Rattle.transform.specs.Counts.{six_added}
 use Rattle.transform.specs.Transforms.{spectrum_map, computing_spectrum, spectrum_mapped}

@@ -2,7 +2,6 @@
 use mathlib.Core.Path.{ap, ◌∙◌}
 use Prim.Native.Nat.{ℕ}
 use native.Mathlib.Omega.{arith}
-use borrow.Author.Rules.{rules}
 use Rattle.algebra.specs.Lists.{table}
 use Rattle.transform.specs.Slots.{slot}
 use Rattle.codec.proofs.syndromes.slots.Goals as goal

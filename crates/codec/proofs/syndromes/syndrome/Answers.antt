@@ -3,7 +3,6 @@ use mathlib.Core.Path.{◌≡◌}
 use Prim.Native.Nat.{◌*◌, ◌-◌, ◌≤◌}
 use native.Mathlib.Omega.{arith}
 use lib.ListN.{length}
-use borrow.Author.Rules.{rules}
 use Rattle.refusal.specs.Replies.{no_refusal}
 use Rattle.codec.specs.Refusals.{syndrome_passed, tested_refused, tested_done}
 use Rattle.lists.specs.Filling.{filled_rest}

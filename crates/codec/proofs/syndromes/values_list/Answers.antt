@@ -1,5 +1,4 @@
 -- `codec::syndromes::values_list` meets its contract: six entries are the list.
-use borrow.Author.Rules.{rules}
 use Rattle.rank.specs.Arrays.{six}
 use Rattle.codec.proofs.syndromes.values_list.Goals as goal
 

@@ -1,5 +1,4 @@
 -- `codec::tests::encode_tests` meets its contract: the lengths fit as the definition asks.
-use borrow.Author.Rules.{rules}
 use Rattle.codec.specs.Operations.{encode_refusal}
 use Rattle.codec.proofs.tests.encode_tests.Goals as goal
 

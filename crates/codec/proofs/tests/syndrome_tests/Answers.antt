@@ -1,5 +1,4 @@
 -- `codec::tests::syndrome_tests` meets its contract: the lengths fit as the definition asks.
-use borrow.Author.Rules.{rules}
 use Rattle.codec.specs.Operations.{syndrome_refusal}
 use Rattle.codec.proofs.tests.syndrome_tests.Goals as goal
 

@@ -1,6 +1,5 @@
 -- `codec::tests::test_input` meets its contract: k is tested first, and `test_list` decides the rest.
 use mathlib.Core.Path.{sym, ◌∙◌}
-use borrow.Author.Rules.{rules}
 use Rattle.codec.specs.Operations.{tests}
 use Rattle.codec.proofs.tests.test_input.Goals as goal
 

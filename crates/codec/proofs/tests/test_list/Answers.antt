@@ -1,6 +1,5 @@
 -- `codec::tests::test_list` meets its contract: each test on the way decides one test of the definition.
 use mathlib.Core.Path.{sym, ◌∙◌}
-use borrow.Author.Rules.{rules}
 use Rattle.codec.specs.Operations.{tests}
 use Rattle.codec.proofs.tests.test_list.Goals as goal
 

@@ -1,5 +1,4 @@
 -- `dead_decoder::blank::blanked` meets its contract: the six symbols are those of `blanked`.
-use borrow.Author.Rules.{rules}
 use Rattle.dead_decoder.specs.Checking.{blanked_six}
 use Rattle.dead_decoder.proofs.blank.blanked.Goals as goal
 

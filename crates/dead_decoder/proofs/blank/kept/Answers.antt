@@ -1,5 +1,4 @@
 -- `dead_decoder::blank::kept` meets its contract: the six digits are those of `kept`.
-use borrow.Author.Rules.{rules}
 use Rattle.dead_decoder.specs.Checking.{kept_six}
 use Rattle.dead_decoder.proofs.blank.kept.Goals as goal
 

@@ -1,6 +1,5 @@
 -- `dead_decoder::decoding::dead_card` meets its contract: six entries are the list.
 use mathlib.Core.Path.{refl}
-use borrow.Author.Rules.{rules}
 use Rattle.rank.specs.Arrays.{six}
 use Rattle.dead_decoder.proofs.decoding.dead_card.Goals as goal
 

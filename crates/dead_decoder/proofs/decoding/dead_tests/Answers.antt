@@ -1,5 +1,4 @@
 -- `dead_decoder::decoding::dead_tests` meets its contract: the tests of `decode`, then the masks, then the number of dead lines.
-use borrow.Author.Rules.{rules}
 use borrow.Author.Tests.{lt-ltb, le-ltb}
 use Rattle.dead_decoder.specs.Operation.{input_refused, masks_refused, lines_refused, tests_done}
 use Rattle.dead_decoder.proofs.decoding.dead_tests.Goals as goal

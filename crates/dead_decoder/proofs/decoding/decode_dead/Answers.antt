@@ -1,7 +1,6 @@
 -- `dead_decoder::decoding::decode_dead` meets its contract: the tests decide, and then what was found.
 use mathlib.Core.Path.{◌≡◌}
 use lib.ListN.{length}
-use borrow.Author.Rules.{rules}
 use Rattle.refusal.specs.Replies.{no_refusal}
 use Rattle.dead_decoder.specs.Operation.{dead_tests, dead_passed, made_tested, found_fits, dead_decoded_refused, dead_decoded_none, dead_decoded_done}
 use Rattle.dead_decoder.proofs.decoding.decode_dead.Goals as goal

@@ -1,5 +1,4 @@
 -- `dead_decoder::decoding::decode_lines` meets its contract: what `solve` finds by the card's coefficients, all steps made.
-use borrow.Author.Rules.{rules}
 use Rattle.dead_decoder.specs.Operation.{finds_lines}
 use Rattle.dead_decoder.proofs.decoding.decode_lines.Goals as goal
 

@@ -1,6 +1,5 @@
 -- `dead_decoder::masks::unless_dead` meets its contract: the bit decides.
 use native.Mathlib.Omega.{arith}
-use borrow.Author.Rules.{rules}
 use borrow.Author.Tests.{eq-eqb, ne_eqb}
 use Rattle.dead_decoder.proofs.masks.unless_dead.Goals as goal
 

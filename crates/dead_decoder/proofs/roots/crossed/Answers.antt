@@ -1,5 +1,4 @@
 -- `dead_decoder::roots::crossed` meets its contract: two products and their difference.
-use borrow.Author.Rules.{rules}
 use Rattle.dead_decoder.proofs.roots.crossed.Goals as goal
 
 pub returns : goal.returns

@@ -3,7 +3,6 @@ use mathlib.Core.Path.{◌≡◌, ap, ap₂, ◌∙◌}
 use Prim.Native.Nat.{ℕ}
 use Rattle.algebra.specs.Field.{add, minus, times}
 use Rattle.dead_decoder.specs.Roots.{passes_by}
-use borrow.Author.Rules.{rules}
 use Rattle.dead_decoder.proofs.roots.quadratic_of.Goals as goal
 
 -- a difference of products whose first and last factors are known

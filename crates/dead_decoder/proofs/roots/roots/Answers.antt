@@ -1,7 +1,6 @@
 -- `dead_decoder::roots::roots` meets its contract: the root of a line, or the two of a square completed.
 use Rattle.rank.specs.Definitions.{at}
 use Rattle.dead_decoder.specs.Roots.{roots_line, roots_square}
-use borrow.Author.Rules.{rules}
 use Rattle.dead_decoder.proofs.roots.roots.Goals as goal
 
 pub returns-then-a-eq0 : goal.returns-then-a-eq0

@@ -2,7 +2,6 @@
 use native.Mathlib.Omega.{arith}
 use Rattle.field.specs.Tables.{log_small}
 use Rattle.dead_decoder.specs.Roots.{root_none, root_read}
-use borrow.Author.Rules.{rules}
 use Rattle.dead_decoder.proofs.roots.square_root.Goals as goal
 
 pub returns-then-x-eq0 : goal.returns-then-x-eq0

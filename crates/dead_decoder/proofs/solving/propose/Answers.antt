@@ -5,7 +5,6 @@ use Rattle.algebra.specs.Lists.{table, length_table}
 use Rattle.rank.specs.Definitions.{at}
 use Rattle.coding.specs.Coefficients.{is_message_read}
 use Rattle.dead_decoder.specs.Solutions.{proposal_by}
-use borrow.Author.Rules.{rules}
 use Rattle.dead_decoder.proofs.solving.propose.Goals as goal
 
 pub all_back-g-requires : goal.all_back-g-requires

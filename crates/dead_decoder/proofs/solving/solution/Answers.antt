@@ -2,7 +2,6 @@
 use native.Mathlib.Omega.{arith}
 use Rattle.rank.specs.Definitions.{at}
 use Rattle.dead_decoder.specs.Solutions.{solution_two, solution_four, solution_six}
-use borrow.Author.Rules.{rules}
 use Rattle.dead_decoder.proofs.solving.solution.Goals as goal
 
 pub solved_pair-f-requires : goal.solved_pair-f-requires

@@ -1,5 +1,4 @@
 -- `dead_decoder::steps::all_back` meets its contract: the way back for columns, and then that for rows.
-use borrow.Author.Rules.{rules}
 use Rattle.dead_decoder.specs.Lines.{backs_both}
 use Rattle.dead_decoder.proofs.steps.all_back.Goals as goal
 

@@ -1,5 +1,4 @@
 -- `dead_decoder::steps::all_steps` meets its contract: the steps for rows, and then those for columns.
-use borrow.Author.Rules.{rules}
 use Rattle.dead_decoder.specs.Lines.{steps_both}
 use Rattle.dead_decoder.proofs.steps.all_steps.Goals as goal
 

@@ -1,9 +1,6 @@
 -- `dead_decoder::steps::back` meets its contract: each turn goes back from what stands before.
-use mathlib.Core.Path.{◌∙◌}
 use Prim.Native.Nat.{◌+◌, ◌-◌, ◌≤◌}
-use native.Mathlib.Omega.{arith}
-use borrow.Author.Rules.{rules}
-use Rattle.dead_decoder.specs.Lines.{step_of, raised_any, Backed, backed_none, backed_next, backed_end}
+use Rattle.dead_decoder.specs.Lines.{step_of, Backed}
 use Rattle.dead_decoder.proofs.steps.back.Given as goal
 
 abbrev pub invariant-loop-i : goal.invariant-loop-i

@@ -1,5 +1,4 @@
 -- `dead_decoder::steps::conjugates` meets its contract: each is the cube of the one before.
-use borrow.Author.Rules.{rules}
 use Rattle.algebra.specs.Field.{risen}
 use Rattle.algebra.specs.Lists.{table}
 use Rattle.dead_decoder.proofs.steps.conjugates.Goals as goal

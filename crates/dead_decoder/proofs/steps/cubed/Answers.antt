@@ -3,7 +3,6 @@ use mathlib.Core.Path.{◌∙◌}
 use native.Mathlib.Nat.{mod-eq_of_lt}
 use Rattle.algebra.specs.Field.{cube}
 use Rattle.algebra.specs.Products.{one_times, cube_linear}
-use borrow.Author.Rules.{rules}
 use Rattle.dead_decoder.proofs.steps.cubed.Goals as goal
 
 pub returns : goal.returns

@@ -1,5 +1,4 @@
 -- `dead_decoder::steps::entry` meets its contract: one product and one difference.
-use borrow.Author.Rules.{rules}
 use Rattle.dead_decoder.proofs.steps.entry.Goals as goal
 
 pub returns : goal.returns

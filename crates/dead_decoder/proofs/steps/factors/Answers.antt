@@ -1,6 +1,5 @@
 -- `dead_decoder::steps::factors` meets its contract: a six times for rows, its conjugates for columns.
 use mathlib.Core.Path.{refl}
-use borrow.Author.Rules.{rules}
 use Rattle.algebra.specs.Lists.{table}
 use Rattle.dead_lines.specs.Steps.{multiplier}
 use Rattle.dead_decoder.proofs.steps.factors.Goals as goal

@@ -1,6 +1,5 @@
 -- `dead_decoder::steps::multiplier` meets its contract: the tables are those of the definition.
 use mathlib.Core.Path.{refl}
-use borrow.Author.Rules.{rules}
 use Rattle.rank.specs.Definitions.{at}
 use Rattle.dead_lines.specs.Multipliers.{row_multipliers, column_multipliers}
 use Rattle.dead_decoder.proofs.steps.multiplier.Goals as goal

@@ -1,6 +1,5 @@
 -- `dead_decoder::steps::raised` meets its contract: a cube for rows, the number itself for columns.
 use mathlib.Core.Path.{refl}
-use borrow.Author.Rules.{rules}
 use Rattle.dead_lines.specs.Steps.{raised}
 use Rattle.dead_decoder.proofs.steps.raised.Goals as goal
 

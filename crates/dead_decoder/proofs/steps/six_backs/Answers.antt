@@ -1,5 +1,4 @@
 -- `dead_decoder::steps::six_backs` meets its contract: one way back after the other.
-use borrow.Author.Rules.{rules}
 use Rattle.dead_decoder.specs.Lines.{step_of, multipliers, backs_six}
 use Rattle.dead_decoder.proofs.steps.six_backs.Goals as goal
 

@@ -1,5 +1,4 @@
 -- `dead_decoder::steps::six_steps` meets its contract: one step after the other.
-use borrow.Author.Rules.{rules}
 use Rattle.dead_decoder.specs.Lines.{step_of, multipliers, steps_six}
 use Rattle.dead_decoder.proofs.steps.six_steps.Goals as goal
 

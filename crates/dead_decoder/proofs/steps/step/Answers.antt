@@ -1,5 +1,4 @@
 -- `dead_decoder::steps::step` meets its contract: six entries, each from its coefficient and the one before.
-use borrow.Author.Rules.{rules}
 use Rattle.dead_decoder.specs.Lines.{step_six}
 use Rattle.dead_decoder.proofs.steps.step.Goals as goal
 

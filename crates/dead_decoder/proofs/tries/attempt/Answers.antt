@@ -4,7 +4,6 @@ use Rattle.rank.specs.Definitions.{at}
 use Rattle.candidate.specs.Finding.{message_none, matches_none}
 use Rattle.dead_decoder.specs.Fractions.{fraction_at}
 use Rattle.dead_decoder.specs.Solutions.{last_term_by, tried_by, attempt_dead_none, attempt_dead_some}
-use borrow.Author.Rules.{rules}
 use Rattle.dead_decoder.proofs.tries.attempt.Goals as goal
 
 pub returns-then-high-ne0 : goal.returns-then-high-ne0

@@ -4,7 +4,6 @@ use Prim.Native.Nat.{◌%◌}
 use lib.ListN.{set}
 use Rattle.rank.specs.Definitions.{at}
 use Rattle.dead_decoder.specs.Solutions.{less_top_set}
-use borrow.Author.Rules.{rules}
 use Rattle.dead_decoder.proofs.tries.less_top.Goals as goal
 
 pub returns : goal.returns

@@ -1,7 +1,6 @@
 -- `dead_decoder::tries::lower_rank` meets its contract: n decides what is tested.
 use Rattle.rank.specs.Definitions.{at}
 use Rattle.dead_lines.specs.Solving.{lower_rank}
-use borrow.Author.Rules.{rules}
 use borrow.Author.Tests.{eq-eqb, ne_eqb}
 use Rattle.dead_decoder.proofs.tries.lower_rank.Goals as goal
 

@@ -1,7 +1,6 @@
 -- `dead_decoder::tries::prepare` meets its contract: n is 2, 4 or 6.
 use native.Mathlib.Omega.{arith}
 use mathlib.Core.Path.{◌≡◌}
-use borrow.Author.Rules.{rules}
 use Rattle.dead_decoder.proofs.tries.prepare.Goals as goal
 
 pub returns-then-n-eq2 : goal.returns-then-n-eq2

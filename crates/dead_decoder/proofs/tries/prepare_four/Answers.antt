@@ -3,7 +3,6 @@ use mathlib.Core.Path.{refl, ap, ◌∙◌}
 use Rattle.algebra.specs.Field.{minus, times}
 use Rattle.rank.specs.Definitions.{at}
 use Rattle.dead_decoder.specs.Fractions.{prepared_four}
-use borrow.Author.Rules.{rules}
 use Rattle.dead_decoder.proofs.tries.prepare_four.Goals as goal
 
 pub returns : goal.returns

@@ -3,7 +3,6 @@ use Rattle.rank.specs.Definitions.{at}
 use mathlib.Core.Path.{refl, ap, ◌∙◌}
 use Rattle.algebra.specs.Field.{minus}
 use Rattle.dead_decoder.specs.Fractions.{prepared_six}
-use borrow.Author.Rules.{rules}
 use Rattle.dead_decoder.proofs.tries.prepare_six.Goals as goal
 
 pub returns : goal.returns

@@ -4,7 +4,6 @@ use Rattle.algebra.specs.Field.{add, minus, times, cube}
 use Prim.Native.Nat.{ℕ}
 use Rattle.rank.specs.Definitions.{at}
 use Rattle.dead_decoder.specs.Fractions.{prepared_two}
-use borrow.Author.Rules.{rules}
 use Rattle.dead_decoder.proofs.tries.prepare_two.Goals as goal
 
 pub returns : goal.returns

@@ -3,7 +3,6 @@ use mathlib.Core.Path.{sym, ◌∙◌}
 use native.Mathlib.Omega.{arith}
 use Rattle.rank.specs.Definitions.{at}
 use Rattle.dead_decoder.specs.Solutions.{solve_odd, solve_lower, solve_tries}
-use borrow.Author.Rules.{rules}
 use Rattle.dead_decoder.proofs.tries.solve.Goals as goal
 
 pub propose-requires : goal.propose-requires

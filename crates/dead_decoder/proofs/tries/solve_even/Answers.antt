@@ -6,7 +6,6 @@ use Rattle.rank.specs.Definitions.{at}
 use Rattle.dead_lines.specs.Struck.{dead_lines}
 use Rattle.dead_lines.specs.Multipliers.{steps}
 use Rattle.dead_decoder.specs.Solutions.{first_one, gamma_raised}
-use borrow.Author.Rules.{rules}
 use Rattle.dead_decoder.proofs.tries.solve_even.Goals as goal
 
 pub all_back-one-requires : goal.all_back-one-requires

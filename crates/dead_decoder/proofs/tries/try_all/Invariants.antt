@@ -1,14 +1,10 @@
 -- `dead_decoder::tries::try_all` meets its contract: The loop's invariant: none of the tries so far gave an answer.
-use mathlib.Core.Path.{◌≡◌, sym, ◌∙◌}
+use mathlib.Core.Path.{◌≡◌}
 use mathlib.Core.Option.{none}
 use Prim.Native.Nat.{◌-◌, ◌≤◌}
-use native.Mathlib.Omega.{arith}
-use lib.Dec.{lit≤}
 use Rattle.rank.specs.Definitions.{at}
 use Rattle.coding.specs.Options.{first_of}
-use Rattle.candidate.specs.Finding.{message_some, message_none, matches_none, first_none, first_next, first_at, first_all}
 use Rattle.dead_lines.specs.Solving.{attempt_dead}
-use borrow.Author.Rules.{rules}
 use Rattle.dead_decoder.proofs.tries.try_all.Given as goal
 
 abbrev pub invariant-loop-b : goal.invariant-loop-b

@@ -3,7 +3,6 @@ use mathlib.Core.Path.{sym, ◌∙◌}
 use native.Mathlib.Omega.{arith}
 use Rattle.rank.specs.Definitions.{at}
 use Rattle.dead_decoder.specs.Roots.{only_roots, only_roots_turned}
-use borrow.Author.Rules.{rules}
 use Rattle.dead_decoder.proofs.tries.try_roots.Goals as goal
 
 pub roots-r-requires : goal.roots-r-requires

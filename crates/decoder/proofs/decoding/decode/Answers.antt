@@ -4,7 +4,6 @@ use mathlib.Core.Bool.{true}
 use Prim.Native.Nat.{◌*◌, ◌≤◌}
 use native.Mathlib.Omega.{arith}
 use lib.ListN.{length}
-use borrow.Author.Rules.{rules}
 use Rattle.rank.specs.Definitions.{is_card}
 use Rattle.coding.specs.Proved.{decoded}
 use Rattle.refusal.specs.Replies.{no_refusal}

@@ -1,7 +1,6 @@
 -- `decoder::decoding::decode_card` meets its contract: for k = 1 the card may be the word that its first symbol shows, else the test of the spectrum decides.
 use mathlib.Core.Path.{sym, ◌∙◌}
 use lib.Dec.{lit≤}
-use borrow.Author.Rules.{rules}
 use Rattle.decoder.specs.Doubles.{parts_message}
 use Rattle.decoder.proofs.decoding.decode_card.Goals as goal
 

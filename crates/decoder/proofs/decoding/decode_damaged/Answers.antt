@@ -7,7 +7,6 @@ use Rattle.coding.specs.Clean.{unshaped_five}
 use Rattle.candidate.specs.Finding.{message_none, matches_none}
 use Rattle.candidate.specs.Places.{shaped_is}
 use Rattle.decoder.specs.Singles.{three_single}
-use borrow.Author.Rules.{rules}
 use Rattle.decoder.proofs.decoding.decode_damaged.Goals as goal
 
 pub returns-then-k-eq5 : goal.returns-then-k-eq5

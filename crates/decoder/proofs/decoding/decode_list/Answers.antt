@@ -1,7 +1,6 @@
 -- `decoder::decoding::decode_list` meets its contract: six entries are the list.
 use native.Mathlib.Omega.{arith}
 use Rattle.rank.specs.Arrays.{six}
-use borrow.Author.Rules.{rules}
 use Rattle.decoder.proofs.decoding.decode_list.Goals as goal
 
 pub decode_card-requires : goal.decode_card-requires

@@ -1,5 +1,4 @@
 -- `decoder::decoding::decode_tests` meets its contract: the lengths fit as the definition asks.
-use borrow.Author.Rules.{rules}
 use borrow.Author.Tests.{eq-eqb, ne_eqb}
 use Rattle.decoder.specs.Decoding.{decode_tests, lengths_bad}
 use Rattle.decoder.proofs.decoding.decode_tests.Goals as goal

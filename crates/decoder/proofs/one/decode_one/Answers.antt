@@ -3,7 +3,6 @@ use mathlib.Core.Path.{◌∙◌}
 use lib.Dec.{lit≤}
 use Rattle.rank.specs.Definitions.{at}
 use Rattle.decoder.specs.Doubles.{parts_message, one_single, one_double}
-use borrow.Author.Rules.{rules}
 use Rattle.decoder.proofs.one.decode_one.Goals as goal
 
 pub returns-then-known-eq0 : goal.returns-then-known-eq0
@@ -20,9 +19,8 @@ near-requires c = (lit≤ tt, lit≤ tt, rw c.two_numbers.ensures (parts_message
 
 pub returns : goal.returns
 unfolding at
-returns c =
-    (
-      c.near.ensures.0
-          ∙ one_double c.args.card c.requires.0 _ c.requires.1 _ c.determinant-known.ensures c.if-known-eq0.false _ _ c.solved_pair-f.ensures c.two_numbers.ensures,
-      c.near.ensures.1,
-    )
+returns c = (
+  c.near.ensures.0
+      ∙ one_double c.args.card c.requires.0 _ c.requires.1 _ c.determinant-known.ensures c.if-known-eq0.false _ _ c.solved_pair-f.ensures c.two_numbers.ensures,
+  c.near.ensures.1,
+)

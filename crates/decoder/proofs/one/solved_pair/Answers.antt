@@ -1,7 +1,6 @@
 -- `decoder::one::solved_pair` meets its contract: two coefficients solved by the window.
 use Rattle.rank.specs.Definitions.{at}
 use Rattle.decoder.specs.Doubles.{pair_by}
-use borrow.Author.Rules.{rules}
 use Rattle.decoder.proofs.one.solved_pair.Goals as goal
 
 pub annihilator_of-a-requires : goal.annihilator_of-a-requires

@@ -1,6 +1,5 @@
 -- `decoder::one::two_numbers` meets its contract: each number by its call.
 use mathlib.Core.Path.{refl}
-use borrow.Author.Rules.{rules}
 use Rattle.algebra.specs.Lists.{cons}
 use Rattle.decoder.proofs.one.two_numbers.Goals as goal
 

@@ -1,7 +1,6 @@
 -- `decoder::single::chain_of` meets its contract, coefficient by coefficient.
 use Rattle.algebra.specs.Lists.{table}
 use Rattle.coding.specs.RankOne.{next_error, chain}
-use borrow.Author.Rules.{rules}
 use Rattle.decoder.proofs.single.chain_of.Goals as goal
 
 pub returns : goal.returns

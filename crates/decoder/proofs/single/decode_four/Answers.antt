@@ -1,13 +1,9 @@
 -- `decoder::single::decode_four` meets its contract. The loop's invariant: none of the attempts so far gave an answer.
-use mathlib.Core.Path.{◌≡◌, sym, ◌∙◌}
-use mathlib.Core.Option.{none}
-use Prim.Native.Nat.{◌-◌, ◌≤◌}
+use mathlib.Core.Path.{sym, ◌∙◌}
 use native.Mathlib.Omega.{arith}
 use lib.Dec.{lit≤}
-use Rattle.coding.specs.Options.{first_of}
 use Rattle.coding.specs.DecodeSingle.{attempt_four, decode_four, four_is_decode}
 use Rattle.candidate.specs.Finding.{message_some, message_none, matches_none, first_none, first_next, first_at, first_all}
-use borrow.Author.Rules.{rules}
 use Rattle.decoder.proofs.single.decode_four.Goals as goal
 
 pub loop-d-init : goal.loop-d-init
@@ -32,10 +28,9 @@ loop-d-preserved c =
 
 pub returns : goal.returns
 unfolding decode_four
-returns c =
-    (
-      message_none 4 _ c.nothing.ensures
-          ∙ sym (first_all (attempt_four c.args.card) c.loop-d.d 27 c.loop-d.invariant.0 c.loop-d-test.false c.loop-d.invariant.1)
-          ∙ four_is_decode c.args.card c.requires.0,
-      matches_none 4 _ _ c.nothing.ensures,
-    )
+returns c = (
+  message_none 4 _ c.nothing.ensures
+      ∙ sym (first_all (attempt_four c.args.card) c.loop-d.d 27 c.loop-d.invariant.0 c.loop-d-test.false c.loop-d.invariant.1)
+      ∙ four_is_decode c.args.card c.requires.0,
+  matches_none 4 _ _ c.nothing.ensures,
+)

@@ -1,13 +1,9 @@
 -- `decoder::single::decode_four` meets its contract. The loop's invariant: none of the attempts so far gave an answer.
-use mathlib.Core.Path.{◌≡◌, sym, ◌∙◌}
+use mathlib.Core.Path.{◌≡◌}
 use mathlib.Core.Option.{none}
 use Prim.Native.Nat.{◌-◌, ◌≤◌}
-use native.Mathlib.Omega.{arith}
-use lib.Dec.{lit≤}
 use Rattle.coding.specs.Options.{first_of}
-use Rattle.coding.specs.DecodeSingle.{attempt_four, decode_four, four_is_decode}
-use Rattle.candidate.specs.Finding.{message_some, message_none, matches_none, first_none, first_next, first_at, first_all}
-use borrow.Author.Rules.{rules}
+use Rattle.coding.specs.DecodeSingle.{attempt_four}
 use Rattle.decoder.proofs.single.decode_four.Given as goal
 
 abbrev pub invariant-loop-d : goal.invariant-loop-d

@@ -1,7 +1,6 @@
 -- `decoder::single::first_coefficient` meets its contract: the first coefficient of the error, and what is left.
 use Rattle.rank.specs.Definitions.{at}
 use Rattle.coding.specs.RankOne.{next_error}
-use borrow.Author.Rules.{rules}
 use Rattle.decoder.proofs.single.first_coefficient.Goals as goal
 
 pub returns : goal.returns

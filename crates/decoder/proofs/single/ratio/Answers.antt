@@ -2,7 +2,6 @@
 use mathlib.Core.Path.{ap, ◌∙◌}
 use Rattle.algebra.specs.Field.{times, cube}
 use Rattle.algebra.proofs.Inverses.{inverse_cube}
-use borrow.Author.Rules.{rules}
 use Rattle.decoder.proofs.single.ratio.Goals as goal
 
 pub returns : goal.returns

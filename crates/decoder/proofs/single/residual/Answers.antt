@@ -2,7 +2,6 @@
 use mathlib.Core.Path.{◌∙◌}
 use Rattle.rank.specs.Definitions.{at}
 use Rattle.decoder.specs.Singles.{residual_of}
-use borrow.Author.Rules.{rules}
 use Rattle.decoder.proofs.single.residual.Goals as goal
 
 pub returns : goal.returns

@@ -9,7 +9,6 @@ use Rattle.coding.specs.Decode.{if_near}
 use Rattle.coding.specs.DecodeTwo.{ninth, zeroth_error, proposed}
 use Rattle.candidate.specs.Finding.{message_none, matches_none}
 use Rattle.decoder.specs.Doubles.{ninth_by, inner_by, proposed_is, proposed_message, attempt_none, attempt_some}
-use borrow.Author.Rules.{rules}
 use Rattle.decoder.proofs.two.attempt.Goals as goal
 use Rattle.decoder.proofs.two.attempt.Goals.{After-high, After-low-fourth}
 
@@ -28,22 +27,20 @@ proposal c l =
     proposed_is (spectrum c.args.card) c.args.a _ _ _ _ _ l f c.low-second.ensures c.high-third.ensures (c.low-fourth.ensures ∙ ap low c.cube.ensures)
 
 pub returns-then-high-ne0 : goal.returns-then-high-ne0
-returns-then-high-ne0 c =
-    (
-      message_none 2 _ c.nothing.ensures
-          ∙ sym (attempt_none c.args.card c.args.a _ (last (goal.at.returns-then-high-ne0 c).After-high) (λ z. c.if-high-ne0.true (c.high.ensures ∙ z))),
-      matches_none 2 _ _ c.nothing.ensures,
-    )
+returns-then-high-ne0 c = (
+  message_none 2 _ c.nothing.ensures
+      ∙ sym (attempt_none c.args.card c.args.a _ (last (goal.at.returns-then-high-ne0 c).After-high) (λ z. c.if-high-ne0.true (c.high.ensures ∙ z))),
+  matches_none 2 _ _ c.nothing.ensures,
+)
 
 pub near-requires : goal.near-requires
 near-requires c =
     (lit≤ tt, lit≤ tt, ap (is_message 2) (proposal (goal.at.near-requires c).After-low-fourth (last (goal.at.near-requires c).After-high)) ∙ proposed_message (spectrum c.args.card) c.args.a c.requires.0)
 
 pub returns : goal.returns
-returns c =
-    (
-      c.near.ensures.0
-          ∙ ap (if_near 2 c.args.card) (proposal (goal.at.returns c).After-low-fourth (last (goal.at.returns c).After-high))
-          ∙ sym (attempt_some c.args.card c.args.a _ (last (goal.at.returns c).After-high) (sym c.high.ensures ∙ c.if-high-ne0.false)),
-      c.near.ensures.1,
-    )
+returns c = (
+  c.near.ensures.0
+      ∙ ap (if_near 2 c.args.card) (proposal (goal.at.returns c).After-low-fourth (last (goal.at.returns c).After-high))
+      ∙ sym (attempt_some c.args.card c.args.a _ (last (goal.at.returns c).After-high) (sym c.high.ensures ∙ c.if-high-ne0.false)),
+  c.near.ensures.1,
+)

@@ -1,15 +1,11 @@
 -- `decoder::two::decode_two` meets its contract. The loop's invariant: none of the attempts so far gave an answer.
-use mathlib.Core.Path.{◌≡◌, sym, ◌∙◌}
-use mathlib.Core.Option.{none}
-use Prim.Native.Nat.{◌-◌, ◌≤◌}
+use mathlib.Core.Path.{sym, ◌∙◌}
 use native.Mathlib.Omega.{arith}
 use lib.Dec.{lit≤}
 use Rattle.rank.specs.Definitions.{at}
-use Rattle.coding.specs.Options.{first_of}
 use Rattle.coding.specs.DecodeTwo.{attempt}
 use Rattle.candidate.specs.Finding.{message_some, message_none, matches_none, first_none, first_next}
 use Rattle.decoder.specs.Doubles.{prepared_of, two_single, two_found, two_none}
-use borrow.Author.Rules.{rules}
 use Rattle.decoder.proofs.two.decode_two.Goals as goal
 
 pub returns-then-known-eq0 : goal.returns-then-known-eq0
@@ -44,10 +40,9 @@ loop-a-preserved c =
 
 pub returns : goal.returns
 unfolding at
-returns c =
-    (
-      message_none 2 _ c.nothing.ensures
-          ∙ sym (two_none c.args.card c.requires.0 _ c.requires.1 _ c.determinant-known.ensures c.if-known-eq0.false c.loop-a.a
-          c.loop-a.invariant.0 c.loop-a-test.false c.loop-a.invariant.1),
-      matches_none 2 _ _ c.nothing.ensures,
-    )
+returns c = (
+  message_none 2 _ c.nothing.ensures
+      ∙ sym (two_none c.args.card c.requires.0 _ c.requires.1 _ c.determinant-known.ensures c.if-known-eq0.false c.loop-a.a
+      c.loop-a.invariant.0 c.loop-a-test.false c.loop-a.invariant.1),
+  matches_none 2 _ _ c.nothing.ensures,
+)

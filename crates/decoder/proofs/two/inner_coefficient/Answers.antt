@@ -1,5 +1,4 @@
 -- `decoder::two::inner_coefficient` meets its contract: solved by a window whose middle numerator is computed here.
-use borrow.Author.Rules.{rules}
 use Rattle.decoder.proofs.two.inner_coefficient.Goals as goal
 
 pub returns : goal.returns

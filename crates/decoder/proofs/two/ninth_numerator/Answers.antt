@@ -2,7 +2,6 @@
 use Rattle.algebra.specs.Field.{cube}
 use Rattle.algebra.specs.Products.{times_comm}
 use Rattle.rank.specs.Definitions.{at}
-use borrow.Author.Rules.{rules}
 use Rattle.decoder.proofs.two.ninth_numerator.Goals as goal
 
 pub returns : goal.returns

@@ -7,7 +7,6 @@ use Rattle.algebra.specs.Inverses.{inverse}
 use Rattle.rank.specs.Definitions.{at}
 use Rattle.coding.specs.DecodeTwo.{ninth_numerator}
 use Rattle.decoder.specs.Doubles.{determinant_at, numerator_at, ninth_at}
-use borrow.Author.Rules.{rules}
 use Rattle.decoder.proofs.two.prepare.Goals as goal
 
 pub returns : goal.returns

@@ -1,6 +1,5 @@
 -- `decoder::two::value_at` meets its contract: a product and a sum.
 use Rattle.decoder.specs.Doubles.{value_at}
-use borrow.Author.Rules.{rules}
 use Rattle.decoder.proofs.two.value_at.Goals as goal
 
 pub returns : goal.returns

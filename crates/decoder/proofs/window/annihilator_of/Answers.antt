@@ -1,7 +1,6 @@
 -- `decoder::window::annihilator_of` meets its contract: each field by its own call.
 use mathlib.Core.Path.{ap, ◌∙◌}
 use Rattle.algebra.specs.Inverses.{inverse}
-use borrow.Author.Rules.{rules}
 use Rattle.decoder.proofs.window.annihilator_of.Goals as goal
 
 pub returns : goal.returns

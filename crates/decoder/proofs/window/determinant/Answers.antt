@@ -1,6 +1,5 @@
 -- `decoder::window::determinant` meets its contract: two products with cubes and their difference.
 use Rattle.coding.specs.Window.{determinant}
-use borrow.Author.Rules.{rules}
 use Rattle.decoder.proofs.window.determinant.Goals as goal
 
 pub returns : goal.returns

@@ -2,7 +2,6 @@
 use mathlib.Core.Path.{ap, ◌∙◌}
 use Rattle.algebra.specs.Field.{times, cube}
 use Rattle.algebra.specs.Products.{times_comm}
-use borrow.Author.Rules.{rules}
 use Rattle.decoder.proofs.window.ninth_product.Goals as goal
 
 pub returns : goal.returns

@@ -1,6 +1,5 @@
 -- `decoder::window::numerator` meets its contract: two products with ninth powers, and their difference.
 use Rattle.coding.specs.Window.{numerator}
-use borrow.Author.Rules.{rules}
 use Rattle.decoder.proofs.window.numerator.Goals as goal
 
 pub returns : goal.returns

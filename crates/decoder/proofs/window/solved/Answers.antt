@@ -1,7 +1,6 @@
 -- `decoder::window::solved` meets its contract: three products and two sums.
 use Rattle.algebra.specs.Field.{cube}
 use Rattle.algebra.specs.Products.{times_comm}
-use borrow.Author.Rules.{rules}
 use Rattle.decoder.proofs.window.solved.Goals as goal
 
 pub returns : goal.returns

@@ -1,7 +1,6 @@
 -- `field::cube_product_with` meets its contract: one exponent and three times the other come round after 728.
 use mathlib.Core.Path.{sym, ap, ◌∙◌}
 use native.Mathlib.Omega.{arith}
-use borrow.Author.Rules.{rules}
 use Rattle.algebra.specs.Field.{times, cube}
 use Rattle.algebra.specs.Products.{none_cube, times_zero}
 use Rattle.field.specs.Tables.{zero_left, logs_small, cube_product_read}

@@ -1,7 +1,6 @@
 -- `field::inverse_with` meets its contract: the exponent that is read is taken from 728.
 use mathlib.Core.Path.{sym}
 use native.Mathlib.Omega.{arith}
-use borrow.Author.Rules.{rules}
 use Rattle.algebra.proofs.Inverses.{inverse_zero}
 use Rattle.field.specs.Tables.{log_small, inverse_one, inverse_back}
 use Rattle.field.proofs.products.inverse_with.Goals as goal

@@ -1,6 +1,5 @@
 -- `field::product_with` meets its contract: the tables are read by the remainders, and the exponents come round after 728.
 use native.Mathlib.Omega.{arith}
-use borrow.Author.Rules.{rules}
 use Rattle.field.specs.Tables.{zero_left, zero_right, logs_small, product_near, product_round}
 use Rattle.field.proofs.products.product_with.Goals as goal
 

@@ -1,7 +1,6 @@
 -- `field::quotient_with` meets its contract: the exponents are subtracted, and come round after 728.
 use mathlib.Core.Path.{sym, ap, ◌∙◌}
 use native.Mathlib.Omega.{arith}
-use borrow.Author.Rules.{rules}
 use Rattle.algebra.specs.Field.{times}
 use Rattle.algebra.specs.Products.{zero_times}
 use Rattle.algebra.specs.Inverses.{inverse}

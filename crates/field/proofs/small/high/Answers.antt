@@ -1,5 +1,4 @@
 -- `field::high` meets its contract: the formula passed a test of all symbols.
-use borrow.Author.Rules.{rules}
 use Rattle.field.specs.Small.{high_is}
 use Rattle.field.proofs.small.high.Goals as goal
 

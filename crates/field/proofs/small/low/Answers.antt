@@ -1,5 +1,4 @@
 -- `field::low` meets its contract: the formula passed a test of all symbols.
-use borrow.Author.Rules.{rules}
 use Rattle.field.specs.Small.{low_is}
 use Rattle.field.proofs.small.low.Goals as goal
 

@@ -1,5 +1,4 @@
 -- `field::small_symbol` meets its contract: the formula passed a test of the 27 small numbers.
-use borrow.Author.Rules.{rules}
 use Rattle.field.specs.Small.{small_is}
 use Rattle.field.proofs.small.small_symbol.Goals as goal
 

@@ -1,6 +1,5 @@
 -- `field::combination` meets its contract: the sums at the six places, modulo 3, are its digits.
 use native.Mathlib.Omega.{arith}
-use borrow.Author.Rules.{rules}
 use Rattle.field.specs.DigitSums.{combined}
 use Rattle.field.proofs.sums.combination.Goals as goal
 

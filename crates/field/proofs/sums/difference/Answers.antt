@@ -1,5 +1,4 @@
 -- `field::difference` meets its contract: as the sum with twice the other symbol.
-use borrow.Author.Rules.{rules}
 use Rattle.field.specs.DigitSums.{difference_is}
 use Rattle.field.proofs.sums.difference.Goals as goal
 

@@ -1,6 +1,5 @@
 -- `field::place_sum` meets its contract: what is added is at most twice a quotient of x, so it fits.
 use native.Mathlib.Omega.{arith}
-use borrow.Author.Rules.{rules}
 use Rattle.field.specs.DigitSums.{place_six, terms_small}
 use Rattle.field.proofs.sums.place_sum.Goals as goal
 

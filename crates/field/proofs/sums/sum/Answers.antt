@@ -1,5 +1,4 @@
 -- `field::sum` meets its contract: each digit is the remainder of a sum of quotients.
-use borrow.Author.Rules.{rules}
 use Rattle.field.specs.DigitSums.{sum_is}
 use Rattle.field.proofs.sums.sum.Goals as goal
 

@@ -1,5 +1,4 @@
 -- `listing::lines::write_card` meets its contract: a strike and a refusal have each their kind of line.
-use borrow.Author.Rules.{rules}
 use Rattle.listing.specs.Lines.{line_strike, line_refused}
 use Rattle.listing.proofs.lines.write_card.Goals as goal
 

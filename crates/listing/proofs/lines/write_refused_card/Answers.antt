@@ -1,7 +1,6 @@
 -- `listing::lines::write_refused_card` meets its contract: the parts of the line one after another.
 use native.Mathlib.Omega.{arith}
 use lib.ListN.{length-append}
-use borrow.Author.Rules.{rules}
 use Rattle.listing.specs.Listing.{refused_line}
 use Rattle.text.proofs.WritingLaws.{wrote_then}
 use Rattle.listing.proofs.lines.write_refused_card.Goals as goal

@@ -1,5 +1,4 @@
 -- `listing::lines::write_ticks` meets its contract: a sum and a refusal have each their kind of line.
-use borrow.Author.Rules.{rules}
 use Rattle.listing.specs.Lines.{ticks_value, ticks_refused}
 use Rattle.listing.proofs.lines.write_ticks.Goals as goal
 

@@ -1,6 +1,5 @@
 -- `listing::tunes::write_body` meets its contract: the card lines, then the last line.
 use native.Mathlib.Omega.{arith}
-use borrow.Author.Rules.{rules}
 use Rattle.listing.specs.Listing.{body_text}
 use Rattle.text.proofs.WritingLaws.{wrote_then, room_then}
 use Rattle.listing.specs.Sizes.{body_text_length}

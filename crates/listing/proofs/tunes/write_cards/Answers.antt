@@ -1,13 +1,9 @@
 -- `listing::tunes::write_cards` meets its contract: the lines of the cards before card n were written, and their delays added.
-use Prim.Native.Nat.{◌+◌, ◌-◌}
 use native.Mathlib.Omega.{arith}
-use borrow.Author.Rules.{rules}
-use Rattle.refusal.specs.Replies.{reply}
-use Rattle.book.specs.Reading.{cards_in}
 use Rattle.book.specs.Bounds.{good_length}
 use Rattle.book.specs.Delays.{adding_fits}
 use Rattle.text.proofs.WritingLaws.{wrote_length}
-use Rattle.listing.specs.Lines.{CardsSo, cards_start, cards_room, cards_next, cards_end}
+use Rattle.listing.specs.Lines.{cards_start, cards_room, cards_next, cards_end}
 use Rattle.listing.proofs.tunes.write_cards.Goals as goal
 
 pub write_card-end-requires : goal.write_card-end-requires

@@ -1,6 +1,5 @@
 -- `listing::tunes::write_tune` meets its contract: the first line, then the lines of the entry's own part of the book.
 use native.Mathlib.Omega.{arith}
-use borrow.Author.Rules.{rules}
 use Rattle.book.specs.Layout.{tune_number, cards}
 use Rattle.book.specs.Entries.{entry_parts}
 use Rattle.book.proofs.Accepted.{part_good}

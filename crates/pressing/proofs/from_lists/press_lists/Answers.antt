@@ -1,7 +1,6 @@
 -- `pressing::lists::press_lists` meets its contract: the writer's answer decides between book and line.
 use mathlib.Core.Path.{◌≡◌, sym, ◌∙◌}
 use native.Mathlib.Omega.{arith}
-use borrow.Author.Rules.{rules}
 use Rattle.pressing.specs.Pressing.{lists_refusal}
 use Rattle.pressing.specs.Lists.{refused_within, part_within, part_length, lists_number, lists_done, lists_refused}
 use Rattle.pressing.proofs.from_lists.press_lists.Goals as goal

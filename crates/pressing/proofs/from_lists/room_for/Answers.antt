@@ -1,5 +1,4 @@
 -- `pressing::lists::room_for` meets its contract: the size, or 0 if it is refused.
-use borrow.Author.Rules.{rules}
 use borrow.Author.Tests.{ne_eqb}
 use Rattle.refusal.specs.Replies.{answer_refused, answer_value, unless_refused, unless_done}
 use Rattle.writer.specs.Writing.{book_length, size_refusal}

@@ -1,5 +1,4 @@
 -- `pressing::texts::press` meets its contract: the lists are tested, and long enough for what comes of the text.
-use borrow.Author.Rules.{rules}
 use Rattle.pressing.proofs.TextLaws.{enough, presses_refused, presses_both}
 use Rattle.pressing.proofs.texts.press.Goals as goal
 

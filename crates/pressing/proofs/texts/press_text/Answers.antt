@@ -1,7 +1,6 @@
 -- `pressing::texts::press_text` meets its contract: what was read of the text decides.
 use mathlib.Core.Path.{sym}
 use native.Mathlib.Omega.{arith}
-use borrow.Author.Rules.{rules}
 use lib.Seq.{length-take-le}
 use Rattle.tune_text.proofs.AnswerLaws.{tunes_room, strikes_room}
 use Rattle.pressing.specs.Texts.{ListsRead}

@@ -1,8 +1,5 @@
 -- `rank::elimination::pivot_place` meets its contract: the first place where the column is not 0. The loop: no place passed is.
-use mathlib.Core.Path.{◌≡◌, refl, sym, ◌∙◌}
-use Prim.Native.Nat.{◌-◌}
-use borrow.Author.Rules.{rules}
-use Rattle.rank.specs.Elimination.{first_nonzero}
+use mathlib.Core.Path.{refl, sym, ◌∙◌}
 use Rattle.rank.specs.Loops.{nonzero_next, nonzero_here, nonzero_end}
 use Rattle.rank.proofs.elimination.pivot_place.Goals as goal
 

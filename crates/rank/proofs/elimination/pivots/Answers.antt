@@ -1,8 +1,8 @@
 -- `rank::elimination::pivots` meets its contract: as many rows as the pivot log is long. The outer loop: the rows chosen, and those that the pivot log from
 -- here on chooses. The inner one: what is left to clear makes the rest.
-use mathlib.Core.Path.{◌≡◌, refl, sym, ap, ◌∙◌}
+use mathlib.Core.Path.{refl, sym, ap, ◌∙◌}
 use mathlib.Core.List.{[]}
-use Prim.Native.Nat.{◌+◌, ◌*◌, ◌-◌, ◌≤◌}
+use Prim.Native.Nat.{◌+◌, ◌*◌}
 use native.Mathlib.Omega.{arith}
 use lib.ListN.{length, get_or, set}
 use borrow.Author.Rules.{rules}

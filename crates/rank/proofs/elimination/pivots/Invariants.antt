@@ -1,16 +1,9 @@
 -- `rank::elimination::pivots` meets its contract: as many rows as the pivot log is long. The outer loop: the rows chosen, and those that the pivot log from
 -- here on chooses. The inner one: what is left to clear makes the rest.
-use mathlib.Core.Path.{◌≡◌, refl, sym, ap, ◌∙◌}
-use mathlib.Core.List.{[]}
-use Prim.Native.Nat.{◌+◌, ◌*◌, ◌-◌, ◌≤◌}
-use native.Mathlib.Omega.{arith}
-use lib.ListN.{length, get_or, set}
-use borrow.Author.Rules.{rules}
-use Rattle.algebra.specs.Lists.{table}
-use Rattle.rank.specs.Definitions.{subtract}
-use Rattle.rank.specs.Arrays.{subtract_settles, set_settles, swap_settles, taken_set, taken_swap}
-use Rattle.rank.specs.Elimination.{Digits, DigitRows, zeros, swap_rows, Taken, clear_row, clear_on, clear_step, pivot_log_on, pivot_log}
-use Rattle.rank.specs.Loops.{column_nonzero, pivot_after, clear_step_on, clear_next, clear_end, pivot_log_passed, pivot_log_chosen, pivot_log_end}
+use mathlib.Core.Path.{◌≡◌}
+use Prim.Native.Nat.{◌+◌, ◌-◌, ◌≤◌}
+use lib.ListN.{length, get_or}
+use Rattle.rank.specs.Elimination.{Digits, DigitRows, Taken, clear_on, pivot_log_on, pivot_log}
 use Rattle.rank.proofs.elimination.pivots.Given as goal
 
 abbrev pub invariant-loop-i : goal.invariant-loop-i

@@ -1,6 +1,5 @@
 -- `rank::row::digit_less` meets its contract: what is added to a digit is small.
 use native.Mathlib.Omega.{arith}
-use borrow.Author.Rules.{rules}
 use Rattle.rank.specs.Arrays.{product_with_digit}
 use Rattle.rank.proofs.row.digit_less.Goals as goal
 

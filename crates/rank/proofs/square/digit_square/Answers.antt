@@ -1,5 +1,4 @@
 -- `rank::square::digit_square` meets its contract: six rows, each the lowest digits of what the divisions by 3 leave.
-use borrow.Author.Rules.{rules}
 use Rattle.rank.specs.Elimination.{square, square_from}
 use Rattle.rank.proofs.square.digit_square.Goals as goal
 

@@ -1,6 +1,5 @@
 -- `rank::square::low_digits` meets its contract: the six digits are those of `low_digits`.
 use mathlib.Core.Path.{ap}
-use borrow.Author.Rules.{rules}
 use Rattle.rank.specs.Arrays.{six}
 use Rattle.rank.specs.Elimination.{low_digits}
 use Rattle.rank.proofs.square.low_digits.Goals as goal

@@ -1,6 +1,5 @@
 -- `rank::square::other_digits` meets its contract: the six symbols are those of `other_digits`.
 use mathlib.Core.Path.{ap}
-use borrow.Author.Rules.{rules}
 use Rattle.rank.specs.Arrays.{six}
 use Rattle.rank.specs.Elimination.{other_digits}
 use Rattle.rank.proofs.square.other_digits.Goals as goal

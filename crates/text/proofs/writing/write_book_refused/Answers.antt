@@ -1,5 +1,4 @@
 -- `text::writing::write_book_refused` meets its contract: it is a line of a word and a number.
-use borrow.Author.Rules.{rules}
 use Rattle.text.specs.Text.{book_refused}
 use Rattle.text.proofs.writing.write_book_refused.Goals as goal
 

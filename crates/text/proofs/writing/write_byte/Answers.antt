@@ -1,5 +1,4 @@
 -- `text::writing::write_byte` meets its contract: one byte is stored.
-use borrow.Author.Rules.{rules}
 use native.Mathlib.Omega.{arith}
 use Rattle.text.proofs.WritingLaws.{wrote_byte}
 use Rattle.text.proofs.writing.write_byte.Goals as goal

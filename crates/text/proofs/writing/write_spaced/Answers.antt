@@ -1,6 +1,5 @@
 -- `text::writing::write_spaced` meets its contract: a space, then the number.
 use native.Mathlib.Omega.{arith}
-use borrow.Author.Rules.{rules}
 use Rattle.text.specs.Text.{spaced}
 use Rattle.text.proofs.WritingLaws.{wrote_then}
 use Rattle.text.proofs.writing.write_spaced.Goals as goal

@@ -1,8 +1,5 @@
 -- `text::writing::write_word` meets its contract: the first i bytes of the word were written.
-use Prim.Native.Nat.{◌-◌}
 use native.Mathlib.Omega.{arith}
-use lib.ListN.{length}
-use Rattle.text.specs.Writing.{Copying}
 use Rattle.text.proofs.WritingLaws.{wrote_length, copying_start, copying_next, copying_end}
 use Rattle.text.proofs.writing.write_word.Goals as goal
 

@@ -1,7 +1,6 @@
 -- `text::writing::write_word_line` meets its contract: the parts of the line one after another.
 use native.Mathlib.Omega.{arith}
 use lib.ListN.{length-append}
-use borrow.Author.Rules.{rules}
 use Rattle.text.specs.Text.{word_line}
 use Rattle.text.proofs.WritingLaws.{wrote_then}
 use Rattle.text.proofs.writing.write_word_line.Goals as goal
@@ -22,5 +21,4 @@ write_byte-requires c =
 pub returns : goal.returns
 unfolding word_line
 returns c =
-
     wrote_then (wrote_then c.write_word-word_end.ensures c.write_spaced-number_end.ensures) c.write_byte.ensures

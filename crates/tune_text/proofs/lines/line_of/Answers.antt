@@ -3,7 +3,6 @@ use mathlib.Core.Path.{◌≡◌, sym, ◌∙◌}
 use lib.ListN.{length, get_or}
 use Rattle.tune_text.specs.Pieces.{first_word}
 use Rattle.tune_text.proofs.WordLaws.{says_none, says_comment, says_tune, says_other}
-use borrow.Author.Rules.{rules}
 use Rattle.tune_text.proofs.lines.line_of.Goals as goal
 use Rattle.tune_text.proofs.lines.line_of.Goals.{Else-word-eq0, Else-word-eq35}
 

@@ -5,7 +5,6 @@ use Rattle.tune_text.specs.Flags.{was_false, was_true}
 use Rattle.tune_text.specs.Words.{is_number}
 use Rattle.tune_text.specs.Pieces.{first_word, after_word}
 use Rattle.tune_text.proofs.WordLaws.{strike_first, strike_second, strike_third, strike_more, strike_three}
-use borrow.Author.Rules.{rules}
 use mathlib.Core.Path.{ap}
 use mathlib.Core.Bool.{not}
 use Rattle.tune_text.proofs.lines.strike_said.Goals as goal

@@ -3,9 +3,8 @@ use mathlib.Core.Path.{◌≡◌, sym}
 use mathlib.Core.Bool.{true}
 use Rattle.tune_text.specs.Flags.{was_false, was_true}
 use Rattle.tune_text.specs.Words.{is_number}
-use Rattle.tune_text.specs.Pieces.{first_word, after_word}
+use Rattle.tune_text.specs.Pieces.{first_word}
 use Rattle.tune_text.proofs.WordLaws.{tune_not, tune_more, tune_one}
-use borrow.Author.Rules.{rules}
 use mathlib.Core.Path.{ap}
 use mathlib.Core.Bool.{not}
 use Rattle.tune_text.proofs.lines.tune_said.Goals as goal

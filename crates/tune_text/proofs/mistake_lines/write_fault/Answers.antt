@@ -1,5 +1,4 @@
 -- `tune_text::mistake_lines::write_fault` meets its contract: each fault has its words.
-use borrow.Author.Rules.{rules}
 use Rattle.tune_text.proofs.mistake_lines.write_fault.Goals as goal
 
 pub write_word-requires : goal.write_word-requires

@@ -3,7 +3,6 @@ use native.Mathlib.Omega.{arith}
 use lib.ListN.{length-append}
 use Rattle.text.proofs.WritingLaws.{wrote_then}
 use Rattle.tune_text.specs.MistakeLines.{mistake_line}
-use borrow.Author.Rules.{rules}
 use Rattle.tune_text.proofs.mistake_lines.write_mistake.Goals as goal
 
 pub write_word-word_end-requires : goal.write_word-word_end-requires

@@ -1,15 +1,8 @@
 -- `tune_text::mistakes::find_mistake` meets its contract. The loop: the first mistake of the lines that are left is the first of all.
-use mathlib.Core.Path.{◌≡◌, refl, sym, ap, ◌∙◌}
-use mathlib.Core.Bool.{◌||◌}
+use mathlib.Core.Path.{◌≡◌}
 use Prim.Native.Nat.{◌+◌, ◌-◌, ◌≤◌}
-use native.Mathlib.Omega.{arith}
 use lib.ListN.{length, drop}
-use Rattle.tune_text.specs.Flags.{was_false, was_true}
 use Rattle.tune_text.specs.Reading.{lines_said, mistake_from, mistake_of}
-use Rattle.tune_text.specs.Lines.{begins_tune}
-use Rattle.tune_text.proofs.LineLaws.{said_end, mistake_next, mistake_here}
-use borrow.Author.Rules.{rules}
-use mathlib.Core.Bool.{not}
 use Rattle.tune_text.proofs.mistakes.find_mistake.Given as goal
 
 abbrev pub invariant-loop-at : goal.invariant-loop-at

@@ -1,13 +1,12 @@
 -- `tune_text::scanning::cards_ahead` meets its contract. The loop: the strikes so far and those that are still ahead are all.
 use mathlib.Core.Path.{◌≡◌, sym, ap, ◌∙◌}
-use Prim.Native.Nat.{◌+◌, ◌-◌}
+use Prim.Native.Nat.{◌+◌}
 use native.Mathlib.Omega.{arith}
-use lib.ListN.{length, drop}
+use lib.ListN.{drop}
 use Rattle.tune_text.specs.Reading.{lines_said, cards_ahead}
 use Rattle.tune_text.specs.Lines.{card_in}
 use Rattle.tune_text.proofs.LineLaws.{said_end, ahead_tune, ahead_other}
 use Rattle.tune_text.proofs.SizeLaws.{ahead_fits}
-use borrow.Author.Rules.{rules}
 use Rattle.tune_text.proofs.scanning.cards_ahead.Goals as goal
 use Rattle.tune_text.proofs.scanning.cards_ahead.Goals.{Else-begins_tune}
 

@@ -1,13 +1,8 @@
 -- `tune_text::scanning::cards_ahead` meets its contract. The loop: the strikes so far and those that are still ahead are all.
-use mathlib.Core.Path.{◌≡◌, sym, ap, ◌∙◌}
+use mathlib.Core.Path.{◌≡◌}
 use Prim.Native.Nat.{◌+◌, ◌-◌}
-use native.Mathlib.Omega.{arith}
 use lib.ListN.{length, drop}
 use Rattle.tune_text.specs.Reading.{lines_said, cards_ahead}
-use Rattle.tune_text.specs.Lines.{card_in}
-use Rattle.tune_text.proofs.LineLaws.{said_end, ahead_tune, ahead_other}
-use Rattle.tune_text.proofs.SizeLaws.{ahead_fits}
-use borrow.Author.Rules.{rules}
 use Rattle.tune_text.proofs.scanning.cards_ahead.Given as goal
 
 abbrev pub invariant-loop-at : goal.invariant-loop-at

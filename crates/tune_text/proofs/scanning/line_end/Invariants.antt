@@ -1,13 +1,9 @@
 -- `tune_text::scanning::line_end` meets its contract. The loop: the end is as far from i as the first line of the rest is long.
-use mathlib.Core.Path.{◌≡◌, refl, sym, ◌∙◌}
+use mathlib.Core.Path.{◌≡◌}
 use Prim.Native.Nat.{◌+◌, ◌-◌}
-use native.Mathlib.Omega.{arith}
 use lib.ListN.{length, drop}
-use borrow.Author.Tests.{eq-eqb, ne_eqb}
 use Rattle.tune_text.specs.Words.{new_line}
 use Rattle.tune_text.specs.Pieces.{ends_at}
-use Rattle.tune_text.proofs.PieceLaws.{ends_here, ends_next, ends_none}
-use borrow.Author.Rules.{rules}
 use Rattle.tune_text.proofs.scanning.line_end.Given as goal
 
 abbrev pub invariant-loop-i : goal.invariant-loop-i

@@ -1,7 +1,6 @@
 -- `tune_text::scanning::line_here` meets its contract: the part of the text up to the end is the line.
 use native.Mathlib.Omega.{arith}
 use Rattle.tune_text.proofs.LineLaws.{end_within, found}
-use borrow.Author.Rules.{rules}
 use Rattle.tune_text.proofs.scanning.line_here.Goals as goal
 
 pub slice_bounds-line_of-end : goal.slice_bounds-line_of-end

@@ -1,9 +1,7 @@
 -- `tune_text::tunes::fill` meets its contract. The loop: of each list, what was written and what the lines that are left add is the whole.
 use mathlib.Core.Path.{ap}
-use Prim.Native.Nat.{◌-◌}
 use native.Mathlib.Omega.{arith}
-use lib.ListN.{length, drop}
-use Rattle.text.specs.Writing.{Partway}
+use lib.ListN.{drop}
 use Rattle.text.proofs.WritingLaws.{wrote_length, partway_start, partway_room, partway_next, partway_end}
 use Rattle.tune_text.specs.Reading.{lines_said, gathered, number_in, strike_in, count_in, numbers_of, strikes_of, counts_of}
 use Rattle.tune_text.proofs.LineLaws.{said_end}

@@ -1,7 +1,6 @@
 -- `tune_text::tunes::put_count` meets its contract: one count for a tune's line, and none for others.
 use native.Mathlib.Omega.{arith}
 use Rattle.text.proofs.WritingLaws.{wrote_none, wrote_byte}
-use borrow.Author.Rules.{rules}
 use Rattle.tune_text.proofs.tunes.put_count.Goals as goal
 
 pub bounds-counts-at : goal.bounds-counts-at

@@ -3,7 +3,6 @@ use native.Mathlib.Omega.{arith}
 use lib.ListN.{length-set}
 use Rattle.text.proofs.WritingLaws.{wrote_none}
 use Rattle.tune_text.proofs.LineLaws.{wrote_three}
-use borrow.Author.Rules.{rules}
 use Rattle.tune_text.proofs.tunes.put_strike.Goals as goal
 
 pub bounds-strikes-at : goal.bounds-strikes-at

@@ -4,7 +4,6 @@ use native.Mathlib.Nat.{zero-add}
 use native.Mathlib.Omega.{arith}
 use Rattle.tune_text.specs.Answers.{Tested}
 use Rattle.tune_text.proofs.AnswerLaws.{numbers_short, counts_short, strikes_short, answer_long, answer_short, answer_wrong, answer_read}
-use borrow.Author.Rules.{rules}
 use Rattle.tune_text.proofs.tunes.read_tunes.Goals as goal
 use Rattle.tune_text.proofs.tunes.read_tunes.Goals.{Else-strikes-text}
 

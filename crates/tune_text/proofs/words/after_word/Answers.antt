@@ -4,7 +4,6 @@ use native.Mathlib.Omega.{arith}
 use Rattle.tune_text.specs.Words.{blank}
 use Rattle.tune_text.specs.Pieces.{after_word}
 use Rattle.tune_text.proofs.PieceLaws.{ends_within, part_rest}
-use borrow.Author.Rules.{rules}
 use Rattle.tune_text.proofs.words.after_word.Goals as goal
 
 pub slice_bounds-result-count : goal.slice_bounds-result-count

@@ -4,7 +4,6 @@ use native.Mathlib.Omega.{arith}
 use Rattle.tune_text.specs.Words.{blank}
 use Rattle.tune_text.specs.Pieces.{first_word}
 use Rattle.tune_text.proofs.PieceLaws.{ends_within}
-use borrow.Author.Rules.{rules}
 use Rattle.tune_text.proofs.words.first_word.Goals as goal
 
 pub slice_bounds-result-end : goal.slice_bounds-result-end

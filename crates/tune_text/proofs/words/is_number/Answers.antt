@@ -1,7 +1,6 @@
 -- `tune_text::words::is_number` meets its contract: it is not empty, and has only digits.
 use mathlib.Core.Path.{sym, ◌∙◌}
 use Rattle.tune_text.specs.Numbers.{number_none, number_some}
-use borrow.Author.Rules.{rules}
 use Rattle.tune_text.proofs.words.is_number.Goals as goal
 
 pub returns-then-word-eq0 : goal.returns-then-word-eq0

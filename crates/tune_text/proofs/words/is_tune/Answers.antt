@@ -2,7 +2,6 @@
 use mathlib.Core.Path.{sym}
 use borrow.Author.Tests.{eq-eqb, ne_eqb}
 use Rattle.tune_text.specs.Numbers.{same_length, same_four}
-use borrow.Author.Rules.{rules}
 use Rattle.tune_text.proofs.words.is_tune.Goals as goal
 
 pub returns-then-word-ne4 : goal.returns-then-word-ne4

@@ -1,12 +1,8 @@
 -- `tune_text::words::only_digits` meets its contract. The loop: what is left to look at decides.
-use mathlib.Core.Path.{◌≡◌, refl, sym, ◌∙◌}
-use Prim.Native.Nat.{◌-◌}
+use mathlib.Core.Path.{refl, sym, ◌∙◌}
 use native.Mathlib.Omega.{arith}
-use lib.ListN.{length, drop}
 use Rattle.tune_text.specs.Flags.{was_false, was_true}
-use Rattle.tune_text.specs.Words.{only_digits}
 use Rattle.tune_text.specs.Numbers.{digits_next, digits_not, digits_end}
-use borrow.Author.Rules.{rules}
 use mathlib.Core.Path.{ap}
 use mathlib.Core.Bool.{not}
 use Rattle.tune_text.proofs.words.only_digits.Goals as goal

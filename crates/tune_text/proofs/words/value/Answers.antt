@@ -1,12 +1,8 @@
 -- `tune_text::words::value` meets its contract. The loop: the value so far, with the digits that are left, is the value.
-use mathlib.Core.Path.{◌≡◌, refl, sym, ◌∙◌}
-use Prim.Native.Nat.{◌-◌, ◌≤◌, min}
+use mathlib.Core.Path.{refl, sym, ◌∙◌}
 use native.Mathlib.Omega.{arith}
-use lib.ListN.{length, drop}
-use Rattle.text.specs.Decimal.{value_from}
 use Rattle.tune_text.specs.Words.{value}
 use Rattle.tune_text.specs.Numbers.{value_next, value_end}
-use borrow.Author.Rules.{rules}
 use Rattle.tune_text.proofs.words.value.Goals as goal
 
 pub loop-i-init : goal.loop-i-init

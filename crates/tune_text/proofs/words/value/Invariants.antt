@@ -1,12 +1,9 @@
 -- `tune_text::words::value` meets its contract. The loop: the value so far, with the digits that are left, is the value.
-use mathlib.Core.Path.{◌≡◌, refl, sym, ◌∙◌}
+use mathlib.Core.Path.{◌≡◌}
 use Prim.Native.Nat.{◌-◌, ◌≤◌, min}
-use native.Mathlib.Omega.{arith}
 use lib.ListN.{length, drop}
 use Rattle.text.specs.Decimal.{value_from}
 use Rattle.tune_text.specs.Words.{value}
-use Rattle.tune_text.specs.Numbers.{value_next, value_end}
-use borrow.Author.Rules.{rules}
 use Rattle.tune_text.proofs.words.value.Given as goal
 
 abbrev pub invariant-loop-i : goal.invariant-loop-i

@@ -1,12 +1,8 @@
 -- `tune_text::words::word_end` meets its contract. The loop: the end is no less than i bytes away, and the rest of the way is the rest's.
-use mathlib.Core.Path.{◌≡◌, sym, ◌∙◌}
-use Prim.Native.Nat.{◌+◌, ◌-◌}
+use mathlib.Core.Path.{sym, ◌∙◌}
 use native.Mathlib.Omega.{arith}
-use lib.ListN.{length, drop}
 use Rattle.tune_text.specs.Words.{blank}
-use Rattle.tune_text.specs.Pieces.{ends_at}
 use Rattle.tune_text.proofs.PieceLaws.{ends_here, ends_next, ends_none}
-use borrow.Author.Rules.{rules}
 use Rattle.tune_text.proofs.words.word_end.Goals as goal
 
 pub loop-i-init : goal.loop-i-init

@@ -1,12 +1,9 @@
 -- `tune_text::words::word_end` meets its contract. The loop: the end is no less than i bytes away, and the rest of the way is the rest's.
-use mathlib.Core.Path.{◌≡◌, sym, ◌∙◌}
+use mathlib.Core.Path.{◌≡◌}
 use Prim.Native.Nat.{◌+◌, ◌-◌}
-use native.Mathlib.Omega.{arith}
 use lib.ListN.{length, drop}
 use Rattle.tune_text.specs.Words.{blank}
 use Rattle.tune_text.specs.Pieces.{ends_at}
-use Rattle.tune_text.proofs.PieceLaws.{ends_here, ends_next, ends_none}
-use borrow.Author.Rules.{rules}
 use Rattle.tune_text.proofs.words.word_end.Given as goal
 
 abbrev pub invariant-loop-i : goal.invariant-loop-i

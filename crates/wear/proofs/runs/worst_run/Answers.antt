@@ -1,8 +1,6 @@
 -- `wear::runs::worst_run` meets its contract: the tests in their order, then the worst run.
 use mathlib.Core.Path.{◌≡◌, sym, ◌∙◌, ap}
 use mathlib.Core.Bool.{true, false}
-use borrow.Author.Rules.{rules}
-use borrow.Author.Tests.{not-true, not-false}
 use Rattle.refusal.specs.Replies.{replied}
 use Rattle.book.specs.Layout.{body_good}
 use Rattle.wear.specs.Wear.{width_bad}

@@ -1,10 +1,9 @@
 -- `wear::sliding::first_run` meets its contract: the run of the cards before card n is kept.
-use Prim.Native.Nat.{◌+◌, ◌-◌, ◌≤◌}
+use Prim.Native.Nat.{◌+◌, ◌-◌}
 use mathlib.Core.Path.{◌≡◌, refl}
 use native.Mathlib.Omega.{arith}
-use borrow.Author.Rules.{rules}
 use Rattle.wear.specs.Wear.{card_wear}
-use Rattle.wear.specs.Sliding.{Keeps, keeps_none, keeps_grown, keeps_small}
+use Rattle.wear.specs.Sliding.{keeps_none, keeps_grown, keeps_small}
 use Rattle.wear.specs.Worst.{wear_bounded, card_wears}
 use Rattle.wear.proofs.sliding.first_run.Goals as goal
 use Rattle.wear.proofs.sliding.first_run.Goals.{After-reading_wear-wear}

@@ -1,11 +1,7 @@
 -- `wear::sliding::first_run` meets its contract: the run of the cards before card n is kept.
 use Prim.Native.Nat.{◌+◌, ◌-◌, ◌≤◌}
-use mathlib.Core.Path.{◌≡◌, refl}
-use native.Mathlib.Omega.{arith}
-use borrow.Author.Rules.{rules}
 use Rattle.wear.specs.Wear.{card_wear}
-use Rattle.wear.specs.Sliding.{Keeps, keeps_none, keeps_grown, keeps_small}
-use Rattle.wear.specs.Worst.{wear_bounded, card_wears}
+use Rattle.wear.specs.Sliding.{Keeps}
 use Rattle.wear.proofs.sliding.first_run.Given as goal
 
 abbrev pub invariant-loop-n : goal.invariant-loop-n

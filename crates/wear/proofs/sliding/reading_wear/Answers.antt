@@ -1,5 +1,4 @@
 -- `wear::sliding::reading_wear` meets its contract: a refusal's number is not 0.
-use borrow.Author.Rules.{rules}
 use Rattle.wear.specs.Worst.{wear_strike, wear_refused}
 use Rattle.wear.proofs.sliding.reading_wear.Goals as goal
 

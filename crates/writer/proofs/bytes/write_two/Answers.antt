@@ -1,7 +1,6 @@
 -- `writer::bytes::write_two` meets its contract: the high byte, then the low one.
 use native.Mathlib.Omega.{arith}
 use lib.ListN.{length-set}
-use borrow.Author.Rules.{rules}
 use Rattle.writer.proofs.Filled.{wrote_two}
 use Rattle.writer.proofs.bytes.write_two.Goals as goal
 

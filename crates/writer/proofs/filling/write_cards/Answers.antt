@@ -1,10 +1,8 @@
 -- `writer::filling::write_cards` meets its contract: what is written and the cards that are left are all cards.
-use Prim.Native.Nat.{◌-◌, ◌+◌}
+use Prim.Native.Nat.{◌+◌}
 use native.Mathlib.Omega.{arith}
-use lib.ListN.{length}
 use borrow.Author.Rules.{rules}
 use Rattle.text.proofs.WritingLaws.{wrote_length}
-use Rattle.writer.specs.Filled.{CardsSoFar}
 use Rattle.writer.proofs.Filled.{cards_start, cards_room, cards_next, cards_done}
 use Rattle.writer.proofs.filling.write_cards.Goals as goal
 

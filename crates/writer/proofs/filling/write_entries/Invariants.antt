@@ -1,12 +1,7 @@
 -- `writer::filling::write_entries` meets its contract: what is written and the entries that are left are all entries.
 use Prim.Native.Nat.{◌-◌}
-use native.Mathlib.Omega.{arith}
 use lib.ListN.{length}
-use borrow.Author.Rules.{rules}
-use Rattle.text.proofs.WritingLaws.{wrote_length}
-use Rattle.writer.specs.Writing.{book_length}
 use Rattle.writer.specs.Filled.{EntriesSoFar}
-use Rattle.writer.proofs.Filled.{entries_start, start_within, next_within, entries_room, entries_next, entries_done}
 use Rattle.writer.proofs.filling.write_entries.Given as goal
 
 abbrev pub invariant-loop-e : goal.invariant-loop-e

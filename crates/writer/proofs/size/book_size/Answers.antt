@@ -1,10 +1,8 @@
 -- `writer::size::book_size` meets its contract: the sum so far and the counts that are left are the whole.
-use mathlib.Core.Path.{◌≡◌, refl}
-use Prim.Native.Nat.{◌≤◌, ◌-◌, ◌+◌, ◌*◌}
+use mathlib.Core.Path.{refl}
 use native.Mathlib.Omega.{arith}
-use lib.ListN.{length, drop}
 use borrow.Author.Rules.{rules}
-use Rattle.writer.specs.Writing.{all_cards, book_length}
+use Rattle.writer.specs.Writing.{book_length}
 use Rattle.writer.proofs.Tested.{all_cards_next, all_cards_end, size_refused, size_passed}
 use Rattle.writer.proofs.size.book_size.Goals as goal
 

@@ -1,11 +1,8 @@
 -- `writer::size::book_size` meets its contract: the sum so far and the counts that are left are the whole.
-use mathlib.Core.Path.{◌≡◌, refl}
+use mathlib.Core.Path.{◌≡◌}
 use Prim.Native.Nat.{◌≤◌, ◌-◌, ◌+◌, ◌*◌}
-use native.Mathlib.Omega.{arith}
 use lib.ListN.{length, drop}
-use borrow.Author.Rules.{rules}
 use Rattle.writer.specs.Writing.{all_cards, book_length}
-use Rattle.writer.proofs.Tested.{all_cards_next, all_cards_end, size_refused, size_passed}
 use Rattle.writer.proofs.size.book_size.Given as goal
 
 -- each of the at most 8,191 counts adds at most 12 * 65,535 = 786,420

@@ -1,9 +1,5 @@
 -- `writer::tests::any_zero` meets its contract: the counts that are left decide.
-use mathlib.Core.Path.{◌≡◌, refl, sym, ◌∙◌}
-use Prim.Native.Nat.{◌-◌}
-use lib.ListN.{length, drop}
-use borrow.Author.Rules.{rules}
-use Rattle.writer.specs.Writing.{any_zero}
+use mathlib.Core.Path.{refl, sym, ◌∙◌}
 use Rattle.writer.proofs.Tested.{zero_next, zero_here, zero_end}
 use Rattle.writer.proofs.tests.any_zero.Goals as goal
 

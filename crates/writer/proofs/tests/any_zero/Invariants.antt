@@ -1,10 +1,8 @@
 -- `writer::tests::any_zero` meets its contract: the counts that are left decide.
-use mathlib.Core.Path.{◌≡◌, refl, sym, ◌∙◌}
+use mathlib.Core.Path.{◌≡◌}
 use Prim.Native.Nat.{◌-◌}
 use lib.ListN.{length, drop}
-use borrow.Author.Rules.{rules}
 use Rattle.writer.specs.Writing.{any_zero}
-use Rattle.writer.proofs.Tested.{zero_next, zero_here, zero_end}
 use Rattle.writer.proofs.tests.any_zero.Given as goal
 
 abbrev pub invariant-loop-e : goal.invariant-loop-e

@@ -1,11 +1,9 @@
 -- `writer::tests::numbers_rise` meets its contract: the test from here on is the whole test.
-use mathlib.Core.Path.{◌≡◌, refl, ◌∙◌}
-use Prim.Native.Nat.{◌≤◌, ◌-◌}
+use mathlib.Core.Path.{refl, ◌∙◌}
 use native.Mathlib.Omega.{arith}
-use lib.ListN.{length, drop, get_or}
+use lib.ListN.{get_or}
 use borrow.Author.Rules.{rules}
 use borrow.Author.Tests.{le-leb, lt-leb}
-use Rattle.book.specs.Open.{rising}
 use Rattle.book.specs.ContentsLoops.{rising_next, rising_end}
 use Rattle.writer.proofs.tests.numbers_rise.Goals as goal
 

@@ -1,12 +1,8 @@
 -- `writer::tests::numbers_rise` meets its contract: the test from here on is the whole test.
-use mathlib.Core.Path.{◌≡◌, refl, ◌∙◌}
+use mathlib.Core.Path.{◌≡◌}
 use Prim.Native.Nat.{◌≤◌, ◌-◌}
-use native.Mathlib.Omega.{arith}
-use lib.ListN.{length, drop, get_or}
-use borrow.Author.Rules.{rules}
-use borrow.Author.Tests.{le-leb, lt-leb}
+use lib.ListN.{length, drop}
 use Rattle.book.specs.Open.{rising}
-use Rattle.book.specs.ContentsLoops.{rising_next, rising_end}
 use Rattle.writer.proofs.tests.numbers_rise.Given as goal
 
 abbrev pub invariant-loop-e : goal.invariant-loop-e

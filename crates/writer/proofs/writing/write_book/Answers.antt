@@ -3,7 +3,6 @@ use mathlib.Core.Path.{◌≡◌}
 use mathlib.Core.List.{◌++◌}
 use native.Mathlib.Omega.{arith}
 use lib.ListN.{length, length-append}
-use borrow.Author.Rules.{rules}
 use Rattle.strike.specs.Turns.{strikes}
 use Rattle.text.proofs.WritingLaws.{wrote_then, room_then}
 use Rattle.writer.specs.Writing.{contents_bytes, cards_bytes, book_bytes}
