@@ -3,9 +3,7 @@
 pub mod Demands
 -- What is said leaves nothing free
 pub mod Settled
--- What is said holds: of the code, Press, Weigh, Test and Mend, also with dead lines; of strikes, Open, Pull, Read, Length, Worn, Write and
--- Size; of wear; of levels on the cable
--- What holds of written books, stated and proved
+-- What holds of written books
 pub mod WrittenBooks
 -- The cases that are to be theorems
 pub mod Cases

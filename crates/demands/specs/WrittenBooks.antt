@@ -1,4 +1,4 @@
--- What is demanded of written books (document 02, P1), stated and proved: a book is read as it was written, and is written as it was read.
+-- What is demanded of written books (document 02, P1): a book is read as it was written, and is written as it was read.
 -- To be read with Demands, with the definitions of strike/Turns, book/Pull, book/Reading, writer/Writing and writer/Holding, and with the records
 -- `Shows` (writer/Shown), `Held` (writer/Held) and `Again` (writer/Again).
 -- Main: BooksSay.

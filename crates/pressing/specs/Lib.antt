@@ -5,7 +5,5 @@ pub mod Pressing
 pub mod Lists
 -- What comes of a text, by what was read of it
 pub mod Texts
--- What the book shows, and how long book and line are
--- What a caller learns from the answer
 -- A text and its book, and texts of which something is said
 pub mod Example
