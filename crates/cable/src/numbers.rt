@@ -11,6 +11,7 @@ use refusal::{Answer, Refusal};
 const PLUS: i16 = 1;
 
 // The level of a digit: 1 is plus, 2 is minus, 0 a rest.
+#[tactic(auto, unfolding(levels::specs::Levels::level))]
 fn level(d: u16) -> i16
     ensures { result ≡ level d }
 {
