@@ -14,7 +14,7 @@ use Rattle.refusal.specs.declared.Refusal.TheVariants.{BookSize, TuneNumber, Lay
 use Rattle.book.specs.Layout.{longest_book, big, tunes, contents_end, EntriesWithin, tune_number, offset, cards, part_of, body_good}
 use Rattle.book.specs.Open.{size_bad, numbers_bad, bodies_bad, contents_refusal, is_empty, open_refusal}
 use Rattle.book.specs.ContentsLoops.{numbers_on, numbers_start, numbers_next, bodies_on, bodies_start, bodies_next, bodies_end}
-use Rattle.book.specs.Accepted.{Accepted, Passed, body_start, least_number}
+use Rattle.book.specs.Accepted.{Accepted, AcceptedEntry, Passed, body_start, least_number}
 
 -- THE EMPTY FILE is accepted, and has no tunes
 pub empty_accepted : (bs : List ℕ) → length bs ≡ 0 → Accepted bs
@@ -61,6 +61,12 @@ book_within bs a =
 
 pub entries_within : (bs : List ℕ) → Accepted bs → EntriesWithin bs
 entries_within bs a e h = (size_within bs (open_passed bs a (some_bytes bs e h)).size).2 e h
+
+pub entry_within : (bs : List ℕ) (e : ℕ) → AcceptedEntry bs e → contents_end (e + 1) ≤ length bs
+entry_within bs e h = entries_within bs h.0 e h.1
+
+-- what the tests say, one after another
+pub ruleset tested = (empty_accepted, empty_tunes, some_tested, size_within)
 
 -- bodies that pass from entry e on: entry e passes, and those after it
 bodies_step : (bs : List ℕ) (e x : ℕ) → e < tunes bs → bodies_on bs e x ≡ true

@@ -1,18 +1,18 @@
 -- Pull leads to each tune of an accepted book, and to nothing else.
--- Main: pulls_each, pulls_only, refused_empty, empty_refused, refused_from, pulled_good.
+-- Main: pulls_each, pulls_only, found_there, refused_empty, empty_refused, refused_from, pulled_good.
 use Rattle.std.specs.Prelude.{◌≡◌, refl, true, List, [], ℕ, ◌<◌, length}
 use Rattle.std.proofs.Common.{sym, ◌∙◌, ap, arith, eqb-true, eq-eqb, ne_eqb}
 use Rattle.std.proofs.Math.Option.{Option, none, some}
 use Rattle.std.proofs.Math.Decide.{ℕ_discrete}
 use Rattle.algebra.specs.Search.{or_zero}
-use Rattle.refusal.specs.Replies.{number}
+use Rattle.refusal.specs.Replies.{number, reply_value, reply_refused}
 use Rattle.refusal.specs.declared.Refusal.TheVariants.{NoSuchTune}
 use Rattle.book.specs.Layout.{tunes, tune_number, part_of, body_good}
 use Rattle.book.specs.Open.{open_refusal}
 use Rattle.book.specs.Pull.{bears, entry_of, missing, part_at, pull_refusal, pulled, offset_at, pulled_from}
 use Rattle.book.specs.ContentsLoops.{entry_first}
 use Rattle.book.specs.Accepted.{Accepted}
-use Rattle.book.proofs.Accepted.{numbers_rise, part_some, part_good}
+use Rattle.book.proofs.Accepted.{entries_within, numbers_rise, part_some, part_good}
 use Rattle.book.specs.Pulled.{There}
 
 -- AS OPEN, THEN BY THE ENTRY
@@ -57,6 +57,8 @@ entry_there bs a e h =
       before = λ i l b. ne_eqb (tune_number bs i) t (λ q. omega (arith, numbers_rise bs a i e b h));
     })
 
+pub ruleset pulling = (reply_value, reply_refused, pull_accepted, pull_refused)
+
 -- EACH TUNE, AND NOTHING ELSE
 pub pulls_each : (bs : List ℕ) → Accepted bs → (e : ℕ) → e < tunes bs
     → (pull_refusal bs (tune_number bs e) ≡ 0) × (pulled bs (tune_number bs e) ≡ part_of bs e)
@@ -92,6 +94,9 @@ pulls bs t =
 
 pub pulls_only : (bs : List ℕ) (t : ℕ) → pull_refusal bs t ≡ 0 → There bs t (or_zero (entry_of bs t))
 pulls_only bs t r = elim (pulls bs t) [ there p h ↦ h | refused n e b ↦ absurd (n r) ]
+
+pub found_there : (bs : List ℕ) (t e : ℕ) → pull_refusal bs t ≡ 0 → entry_of bs t ≡ some e → There bs t e
+found_there bs t e r q = let h = pulls_only bs t r in rw q at h
 
 -- the part is empty exactly on a refusal
 pub refused_empty : (bs : List ℕ) (t : ℕ) → (pull_refusal bs t ≡ 0 → ⊥) → pulled bs t ≡ []

@@ -1,7 +1,7 @@
 -- Cards where they lie, and what is read of them, in the terms of the code.
 -- Main: big_drop, twelve_bytes, card_part, card_range, card_lost, card_bell, card_strike, found_none, found_near, found_bell, found_strike,
 -- card_passes, read_bad, read_past, read_there, read_passed, refused_reading, card_there, there_card, decoded_message.
-use Rattle.std.specs.Prelude.{◌≡◌, refl, Bool, true, false, not, cond, List, [], ◌∷◌, ℕ, suc, ◌+◌, ◌*◌, ◌-◌, ◌≤◌, ◌<◌, ltb, eqb, length, take, drop}
+use Rattle.std.specs.Prelude.{◌≡◌, refl, Bool, true, false, not, cond, List, [], ◌∷◌, ℕ, suc, ◌+◌, ◌*◌, ◌-◌, ◌≤◌, ◌<◌, ltb, eqb, length, take, drop, Some, None}
 use Rattle.std.proofs.Common.{sym, ◌∙◌, ap, arith, get_or-take, get_or-drop, ltb-false, le-ltb, eq-eqb, ne_eqb}
 use Rattle.std.proofs.Math.Option.{Option, none, some}
 use Rattle.std.proofs.lemmas.Bool.{eqb-false}
@@ -65,22 +65,23 @@ pub card_strike : (c m : List ℕ) → any_above 728 c ≡ false → decode 2 c 
 unfolding card_refusal card_reading value_of_card strike_refusal or_empty decoded_word damage reply_with
 card_strike c m e d b = rw (e, d, b)
 
--- what decoding found
-module _ (c : List ℕ) (r : Found) (inside : any_above 728 c ≡ false) (a : found_message 2 r ≡ decode 2 c) where
-  pub found_none : r.found ≡ false → refused_with no_value (number Undecodable) ≡ card_reading (card_refusal c) c
-  found_none f = card_lost c inside (sym a ∙ message_none 2 r f)
+-- what decoding found: none, or a message with its word's weight
+module _ (c : List ℕ) (inside : any_above 728 c ≡ false) where
+  pub found_none : found_message None ≡ decode 2 c → refused_with no_value (number Undecodable) ≡ card_reading (card_refusal c) c
+  found_none a = card_lost c inside (sym a ∙ message_none)
 
-  pub found_near : r.found ≡ true → decode 2 c ≡ some (take 4 r.message)
-  found_near f = sym a ∙ message_some 2 r f
+  module _ (f : Found) (a : found_message (Some f) ≡ decode 2 c) (w : Consistent 2 c (Some f)) where
+    pub found_near : decode 2 c ≡ some (take 4 f.message.numbers)
+    found_near = sym a ∙ message_some f ∙ ap (λ (k : ℕ). some (take (2 * k) f.message.numbers)) w.0
 
-  pub found_bell : r.found ≡ true → no_bell (strike_of (take 4 r.message)) ≡ true → refused_with no_value (number NoSuchBell) ≡ card_reading (card_refusal c) c
-  found_bell f b = card_bell c (take 4 r.message) inside (found_near f) b
+    pub found_bell : no_bell (strike_of (take 4 f.message.numbers)) ≡ true → refused_with no_value (number NoSuchBell) ≡ card_reading (card_refusal c) c
+    found_bell b = card_bell c (take 4 f.message.numbers) inside found_near b
 
-  pub found_strike : Consistent 2 c r → r.found ≡ true → no_bell (strike_of (take 4 r.message)) ≡ false
-      → struck (take 4 r.message) r.weight ≡ card_reading (card_refusal c) c
-  found_strike w f b =
-      let e = w.weight_is f ∙ ap (λ (v : List ℕ). weight_of (difference v c)) (w.word_is f) in
-      rw e (card_strike c (take 4 r.message) inside (found_near f) b)
+    pub found_strike : no_bell (strike_of (take 4 f.message.numbers)) ≡ false → struck (take 4 f.message.numbers) f.weight ≡ card_reading (card_refusal c) c
+    found_strike b =
+        let v = f.word_is ∙ ap (λ (k : ℕ). word k (take (2 * k) f.message.numbers)) w.0 in
+        let e = w.1 ∙ ap (λ (x : List ℕ). weight_of (difference x c)) v in
+        rw e (card_strike c (take 4 f.message.numbers) inside found_near b)
 
 pub card_passes : (c : List ℕ) → length c ≡ 6 → any_above 728 c ≡ false → is_card c ≡ true
 unfolding is_card

@@ -1,14 +1,12 @@
 -- The tests and the search of the contents from entry e on, in the terms of a loop that counts entries.
 -- Main: rising_next, numbers_count, counts_count, number_at, count_at, numbers_next, bodies_next, and the laws for the start and the end beside
--- them; entry_first, entry_none.
+-- them, numbers_loop and bodies_loop, which name them; entry_first, entry_none.
 use Rattle.std.specs.Prelude.{◌≡◌, refl, Bool, true, ◌&&◌, not, List, ◌↔◌, ℕ, suc, ◌+◌, ◌*◌, ◌-◌, ◌≤◌, ◌<◌, leb, eqb, length, get_or, drop}
-use Rattle.std.proofs.Math.Option.{Option, none, some}
+use Rattle.std.proofs.Math.Option.{none, some}
 use Rattle.std.proofs.Common.{arith, add-one, drop_of_length-le, drop-cons}
 use Rattle.std.proofs.Math.Nat.{sub-zero}
 use Rattle.algebra.specs.Lists.{length_table, at_table}
 use Rattle.algebra.specs.Search.{First, NoneIn, search_first, search_none}
-use Rattle.book.specs.declared.pull.Place.{Place}
-use Rattle.book.specs.declared.pull.Place.TheVariants.{At, Nowhere}
 use Rattle.book.specs.Layout.{tunes, contents_end, tune_number, offset, cards, tune_numbers, card_counts}
 use Rattle.book.specs.Open.{rising, bodies_good, numbers_bad, bodies_bad}
 use Rattle.book.specs.Pull.{bears, entry_of}
@@ -65,6 +63,8 @@ pub numbers_end : (bs : List ℕ) (e l : ℕ) → tunes bs ≤ e → numbers_on 
 unfolding numbers_on
 numbers_end bs e l h = rising_end (tune_numbers bs) e l (rw (numbers_count bs) h)
 
+pub ruleset numbers_loop = (numbers_start, numbers_next, numbers_end)
+
 -- BODIES
 unfoldable pub bodies_on : List ℕ → (e end : ℕ) → Bool
 bodies_on bs e x = bodies_good (tunes bs - e) e x bs
@@ -82,12 +82,9 @@ pub bodies_end : (bs : List ℕ) (e x : ℕ) → tunes bs ≤ e → bodies_on bs
 unfolding bodies_on bodies_good
 bodies_end bs e x h = rw (left_end (tunes bs) e h)
 
--- THE SEARCH. What it found, as the definitions say it
-abbrev pub place_of : Place → Option ℕ
-place_of (At e) = some e
-place_of Nowhere = none
+pub ruleset bodies_loop = (bodies_start, bodies_next, bodies_end)
 
--- the entry is the first that bears the number, and there is none exactly if none bears it
+-- THE SEARCH. The entry is the first that bears the number, and there is none exactly if none bears it
 pub entry_first : (bs : List ℕ) (t e : ℕ) → (entry_of bs t ≡ some e) ↔ First (bears bs t) 0 (tunes bs) e
 unfolding entry_of
 entry_first bs t e = search_first (bears bs t) (tunes bs) 0 (tunes bs) (omega arith) e

@@ -1,7 +1,7 @@
 -- What Length says of a body, and the laws of a loop that adds up delays.
 -- Main: after_refused, card_refused, card_struck; total_bounded, total_bad; Adding, adding_start, adding_next, adding_fits, adding_end,
--- adding_refused; is_refused, delay_sum, not_refused, delays_whole, delays_hole.
-use Rattle.std.specs.Prelude.{◌≡◌, Bool, not, List, eqb}
+-- adding_refused, adding_stops, adding_struck, struck_fits; is_refused, delay_sum, not_refused, delays_whole, delays_hole.
+use Rattle.std.specs.Prelude.{◌≡◌, Bool, not, List, eqb, Result, Ok, Err}
 use Rattle.std.proofs.Math.Path.{refl, sym}
 use Rattle.std.proofs.Common.{◌∙◌}
 use Rattle.std.proofs.Math.Bool.{true, false, cond}
@@ -13,16 +13,11 @@ use Rattle.algebra.specs.Search.{First, NoneIn}
 use Rattle.refusal.specs.Replies.{number, refusal_some, Reply, replied, refused_with, reply_with, reply}
 use Rattle.refusal.specs.declared.Refusal.{Refusal}
 use Rattle.refusal.specs.declared.Refusal.TheVariants.{Length}
-use Rattle.refusal.specs.declared.Answer.{Answer}
-use Rattle.refusal.specs.declared.Answer.TheVariants as answers
-use Rattle.rank.specs.declared.Weight.{Weight}
-use Rattle.strike.specs.declared.Strike.{Strike}
 use Rattle.book.specs.declared.reading.Reading.{Reading}
-use Rattle.book.specs.declared.reading.Reading.TheVariants as readings
 use Rattle.book.specs.Layout.{body_good}
-use Rattle.book.specs.Reading.{CardValue, read_reply, cards_in, reading}
+use Rattle.book.specs.Reading.{CardValue, no_value, read_reply, cards_in, reading}
 use Rattle.book.specs.Bounds.{good_length, reading_bounded}
-use Rattle.book.specs.Bodies.{body_refusal, add_delay, delays, total_delay}
+use Rattle.book.specs.Bodies.{body_refusal, body_refused, add_delay, delays, total_delay}
 
 -- ONE CARD MORE: after a refusal, refused itself, or a strike
 module _ (t : Reply ℕ) (r : Reply CardValue) where
@@ -39,16 +34,16 @@ module _ (t : Reply ℕ) (r : Reply CardValue) where
   add_strike e f = rw (eq-eqb t.refusal 0 e, eq-eqb r.refusal 0 f) (rw f)
 
 -- the same in code
-pub after_refused : (a : Answer) (x : Refusal) (r : Reply CardValue) → a ≡ answers.Refused x → refused_with 0 (number x) ≡ add_delay (reply a) r
+pub after_refused : (a : Result ℕ Refusal) (x : Refusal) (r : Reply CardValue) → a ≡ Err x → refused_with 0 (number x) ≡ add_delay (reply a) r
 after_refused a x r e = rw e (sym (add_after _ r (refusal_some x)))
 
-pub card_refused : (a : Answer) (v : ℕ) (r : Reading) (x : Refusal) → a ≡ answers.Value v → r ≡ readings.Refused x
+pub card_refused : (a : Result ℕ Refusal) (v : ℕ) (r : Result Reading Refusal) (x : Refusal) → a ≡ Ok v → r ≡ Err x
     → refused_with 0 (number x) ≡ add_delay (reply a) (read_reply r)
 card_refused a v r x e f = rw (e, f) (sym (add_refused _ _ refl (refusal_some x)))
 
-pub card_struck : (a : Answer) (v : ℕ) (r : Reading) (s : Strike) (d : Weight) → a ≡ answers.Value v → r ≡ readings.Strike s d
-    → replied (v + s.delay) ≡ add_delay (reply a) (read_reply r)
-card_struck a v r s d e f = rw (e, f) (sym (add_strike _ _ refl refl))
+pub card_struck : (a : Result ℕ Refusal) (v : ℕ) (r : Result Reading Refusal) (s : Reading) → a ≡ Ok v → r ≡ Ok s
+    → replied (v + s.strike.delay) ≡ add_delay (reply a) (read_reply r)
+card_struck a v r s e f = rw (e, f) (sym (add_strike _ _ refl refl))
 
 module _ (bs : List ℕ) where
   next_card : (n : ℕ) → 1 ≤ n → delays n bs ≡ add_delay (delays (n - 1) bs) (reading bs n)
@@ -127,6 +122,22 @@ module _ (bs : List ℕ) where
     pub adding_refused : (t.refusal ≡ 0 → ⊥) → t ≡ total_delay bs
     unfolding total_delay
     adding_refused f = a.said ∙ sym (delays_kept (n - 1) (cards_in bs) (omega (arith, a.within)) (rw (← a.said) f))
+
+  -- a loop that stops at the first refusal: this is its sum so far
+  module _ (sum : ℕ) (n : ℕ) (a : Adding (replied sum) n) (h : n ≤ cards_in bs) where
+    pub adding_stops : (why : Refusal) → refused_with no_value (number why) ≡ reading bs n → refused_with 0 (number why) ≡ total_delay bs
+    adding_stops why e =
+        let r = refused_with no_value (number why) in
+        let s = adding_next (replied sum) n a r _ h e (sym (add_refused (replied sum) r refl (refusal_some why))) in
+        adding_refused _ _ s (refusal_some why)
+
+    pub adding_struck : (x : Reading) → replied x ≡ reading bs n → Adding (replied (sum + x.strike.delay)) (n + 1)
+    adding_struck x e = adding_next (replied sum) n a (replied x) _ h e (sym (add_strike (replied sum) (replied x) refl refl))
+
+    pub struck_fits : (x : Reading) → body_good bs ≡ true → replied x ≡ reading bs n → sum + x.strike.delay ≤ 4294967295
+    struck_fits x g e = adding_fits (replied sum) n a (replied x) g h e
+
+  pub ruleset adding = (body_refused, total_bad, adding_start, adding_end, good_length)
 
   -- THE THEOREM. A card that Read refuses, and the sum of the delays of the first k cards
   abbrev pub is_refused : (n : ℕ) → Bool

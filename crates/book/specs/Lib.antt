@@ -1,5 +1,6 @@
 -- Tune books (SPECIFICATION 5 and 8.5 to 8.11). In reading order.
 -- Definitions
+pub mod Options
 pub mod Layout
 pub mod Open
 pub mod Pull

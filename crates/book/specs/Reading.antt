@@ -1,33 +1,29 @@
 -- What Read says of a card of a body (document 01: Read): a strike with its damage, or a refusal with its number.
 -- Main: CardValue, read_reply, strike_refusal, card_refusal, value_of_card, read_refusal, reading.
-use Rattle.std.specs.Prelude.{Bool, ◌||◌, not, cond, List, ℕ, ◌/◌, ltb, eqb, length}
+use Rattle.std.specs.Prelude.{Bool, ◌||◌, not, cond, List, ℕ, ◌/◌, ltb, eqb, length, Result}
 use Rattle.std.proofs.Math.Option.{Option, none, some}
 use Rattle.algebra.specs.Tests.{any_above}
-use Rattle.refusal.specs.Replies.{number, Reply, replied, refused_with, reply_with}
+use Rattle.refusal.specs.Replies.{number, Reply, reply_or, reply_with}
+use Rattle.refusal.specs.declared.Refusal.{Refusal}
 use Rattle.refusal.specs.declared.Refusal.TheVariants.{Length, Range, Undecodable, NoSuchCard, NoSuchBell}
-use Rattle.rank.specs.declared.Weight.{Weight}
 use Rattle.rank.specs.Weight.{no_weight}
 use Rattle.coding.specs.Decode.{decode}
 use Rattle.decoder.specs.Filling.{or_empty}
 use Rattle.decoder.specs.Decoding.{damage}
-use Rattle.strike.specs.declared.Strike.{Strike}
 use Rattle.strike.specs.Strikes.{no_bell, no_strike, strike_of}
 use Rattle.book.specs.declared.reading.Reading.{Reading}
-use Rattle.book.specs.declared.reading.Reading.TheVariants as readings
 use Rattle.book.specs.Layout.{body_good, card}
 
 -- WHAT A CARD IS READ AS: a strike with its damage; and what a refusal has in its place
-pub record CardValue : Type 0 where
-  pub strike : Strike
-  pub damage : Weight
+abbrev pub CardValue : Type 0
+CardValue = Reading
 
 abbrev pub no_value : CardValue
 no_value = record { strike = no_strike; damage = no_weight }
 
 -- what an answer says
-abbrev pub read_reply : Reading → Reply CardValue
-read_reply (readings.Strike s d) = replied (record { strike = s; damage = d })
-read_reply (readings.Refused r) = refused_with no_value (number r)
+abbrev pub read_reply : Result Reading Refusal → Reply CardValue
+read_reply r = reply_or no_value r
 
 -- A CARD, whose strike has k = 2: 3 and 4 of Decode, 13 for a bell above the last, or its message's strike
 unfoldable pub strike_refusal : Option (List ℕ) → ℕ

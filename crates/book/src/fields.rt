@@ -1,55 +1,46 @@
-// The numbers of a book where they lie: the count of tunes, and the fields of an entry of the contents.
+// The numbers of a book where they lie, and the entries of the contents.
 ghost use Rattle.std.specs.Prelude.{◌≡◌, ◌+◌, ◌≤◌, length};
-ghost use Rattle.book.specs.Layout.{big, big_four, tunes, contents_end, tune_number, offset, cards};
+ghost use Rattle.book.specs.Layout.{big, big_four, contents_end};
+ghost use Rattle.book.specs.Entries.{entry_fields};
 
 // Two bytes as a number, the high byte first.
+#[tactic(auto, unfolding(crate::specs::Layout::big))]
 pub(crate) fn two_bytes(bytes: &[u8], at: usize) -> u16
     requires { at + 2 ≤ length bytes.now }
     ensures { result ≡ big bytes.now at }
 {
-    let high = bytes[at] as u16;
-    let low = bytes[at + 1] as u16;
-    256 * high + low
+    u16::from_be_bytes([bytes[at], bytes[at + 1]])
 }
 
 // Four bytes as a number, the high byte first.
+#[tactic(auto, unfolding(crate::specs::Layout::big, crate::specs::Layout::big_four))]
 fn four_bytes(bytes: &[u8], at: usize) -> u32
     requires { at + 4 ≤ length bytes.now }
     ensures { result ≡ big_four bytes.now at }
 {
-    let high = two_bytes(bytes, at) as u32;
-    let low = two_bytes(bytes, at + 2) as u32;
-    65536 * high + low
+    u32::from_be_bytes([bytes[at], bytes[at + 1], bytes[at + 2], bytes[at + 3]])
 }
 
-// How many tunes the contents has.
-pub(crate) fn tune_count(book: &[u8]) -> u16
-    requires { 2 ≤ length book.now }
-    ensures { result ≡ tunes book.now }
-{
-    two_bytes(book, 0)
+// What an entry of the contents says of its tune: the tune number, where the body begins, counted from the file's start, and how many cards
+// it has.
+#[derive(Clone, Copy)]
+pub(crate) struct Fields {
+    pub number: u16,
+    pub offset: u32,
+    pub cards: u16,
 }
 
-// The tune number of entry `e`.
-pub(crate) fn number_of(book: &[u8], e: usize) -> u16
-    requires { contents_end (e + 1) ≤ length book.now }
-    ensures { result ≡ tune_number book.now e }
-{
-    two_bytes(book, 2 + 8 * e)
-}
-
-// Where the body of entry `e` begins, counted from the file's start.
-pub(crate) fn offset_of(book: &[u8], e: usize) -> u32
-    requires { contents_end (e + 1) ≤ length book.now }
-    ensures { result ≡ offset book.now e }
-{
-    four_bytes(book, 4 + 8 * e)
-}
-
-// How many cards the body of entry `e` has.
-pub(crate) fn cards_of(book: &[u8], e: usize) -> u16
-    requires { contents_end (e + 1) ≤ length book.now }
-    ensures { result ≡ cards book.now e }
-{
-    two_bytes(book, 8 + 8 * e)
+impl Fields {
+    // Of entry `e`, counted from 0.
+    pub(crate) fn of_entry(book: &[u8], e: usize) -> Fields
+        requires { contents_end (e + 1) ≤ length book.now }
+        ensures { result ≡ entry_fields book.now e }
+    {
+        let at = 2 + 8 * e;
+        Fields {
+            number: two_bytes(book, at),
+            offset: four_bytes(book, at + 2),
+            cards: two_bytes(book, at + 6),
+        }
+    }
 }

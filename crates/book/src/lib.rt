@@ -9,8 +9,8 @@ mod fields;
 mod pull;
 mod reading;
 
-pub use bodies::{Worn, add_delay, damaged_card, total_delay};
+pub use bodies::{add_delay, damaged_card, total_delay};
 pub use contents::{LONGEST, open};
-pub use entries::{Entry, Tune, body_at, entry_at, offset_at, tune_at};
+pub use entries::{Entry, Tune, tune_at};
 pub use pull::{find_tune, tune_body, tune_offset, tune_place};
-pub use reading::{Reading, body_good, read_card};
+pub use reading::{Body, Reading, read_card};

@@ -1,38 +1,30 @@
 // Read: a card of a body, read as a strike.
-ghost use Rattle.std.specs.Prelude.{◌≡◌, ◌≤◌, length};
-ghost use Rattle.book.specs.Layout.{body_good, symbols_from, card};
-ghost use Rattle.book.specs.Reading.{read_reply, card_refusal, card_reading, no_card, cards_in, reading};
+ghost use Rattle.std.specs.Prelude.{◌≡◌, true, ◌≤◌, length, IfOk};
+ghost use Rattle.refusal.specs.Replies.{outcome};
+ghost use Rattle.book.specs.Layout.{body_good, symbols_from};
+ghost use Rattle.book.specs.Reading.{read_reply, card_refusal, card_reading, cards_in, reading};
+ghost use Rattle.book.specs.Bodies.{body_refusal};
 
 use crate::fields::two_bytes;
+use candidate::Card;
+use codec::Dimension;
 use rank::Weight;
 use refusal::Refusal;
+use std::array;
 use strike::Strike;
 
-// The answer of a reading: a strike with its damage, the weight of the difference between the card and its word; or a refusal.
+// What a card is read as: a strike with its damage, the weight of the difference between the card and its word.
+#[derive(Clone, Copy, Debug, PartialEq, Eq)]
+pub struct Reading {
+    pub strike: Strike,
+    pub damage: Weight,
+}
+
+// A body: a card for every twelve bytes.
 #[derive(Clone, Copy)]
-pub enum Reading {
-    Strike(Strike, Weight),
-    Refused(Refusal),
-}
-
-// Refusal 2: whether the bytes are a body.
-pub fn body_good(body: &[u8]) -> bool
-    ensures { result ≡ body_good body.now }
-{
-    if 65532 < body.len() {
-        return false;
-    }
-    body.len() % 12 == 0
-}
-
-// Refusal 9: whether the card number is 0 or past the last.
-fn no_card(body: &[u8], number: u32) -> bool
-    ensures { result ≡ no_card body.now number }
-{
-    if number == 0 {
-        return true;
-    }
-    body.len() / 12 < (number as usize)
+pub struct Body<'a> {
+    pub bytes: &'a [u8],
+    pub ghost good: { body_good bytes.now ≡ true },
 }
 
 // The six symbols of twelve bytes.
@@ -40,53 +32,70 @@ fn symbols(bytes: &[u8]) -> [u16; 6]
     requires { length bytes.now ≡ 12 }
     ensures { result ≡ symbols_from 6 bytes.now }
 {
-    [
-        two_bytes(bytes, 0),
-        two_bytes(bytes, 2),
-        two_bytes(bytes, 4),
-        two_bytes(bytes, 6),
-        two_bytes(bytes, 8),
-        two_bytes(bytes, 10),
-    ]
-}
-
-// The card of a number: twelve bytes from within the body.
-fn card_at(body: &[u8], n: usize) -> [u16; 6]
-    requires { (1 ≤ n) × (n ≤ cards_in body.now) }
-    ensures { result ≡ card body.now n }
-{
-    symbols(&body[12 * (n - 1)..12 * n])
+    array::from_fn(|i| two_bytes(bytes, 2 * i))
 }
 
 // Six symbols, read: 3 and 4 of Decode for k = 2, 13 for the bell, or their strike.
-fn read_symbols(card: [u16; 6]) -> Reading
-    ensures { read_reply result ≡ card_reading (card_refusal card) card }
+fn read_symbols(symbols: [u16; 6]) -> Result<Reading, Refusal>
+    ensures { read_reply result ≡ card_reading (card_refusal symbols) symbols }
 {
-    if lists::any_above(&card, 728) {
-        return Reading::Refused(Refusal::Range);
+    if lists::any_above(&symbols, 728) {
+        return Err(Refusal::Range);
     }
-    let near = decoder::decode_card(2, card);
-    if !near.found {
-        return Reading::Refused(Refusal::Undecodable);
+    let k = Dimension { value: 2 };
+    let card = Card { symbols };
+    let Some(near) = decoder::decode_card(k, card) else {
+        return Err(Refusal::Undecodable);
+    };
+    let strike = Strike::from_message(near.message.numbers);
+    if strike.has_no_bell() {
+        return Err(Refusal::NoSuchBell);
     }
-    let message = near.message;
-    let damage = near.weight;
-    let s = strike::strike_of(message);
-    if strike::no_bell(s) {
-        return Reading::Refused(Refusal::NoSuchBell);
+    Ok(Reading {
+        strike,
+        damage: near.weight,
+    })
+}
+
+impl<'a> Body<'a> {
+    // The bytes as a body, or refusal 2.
+    #[tactic(auto, unfolding(crate::specs::Bodies::body_refusal, crate::specs::Layout::body_good))]
+    pub fn new(bytes: &'a [u8]) -> Result<Body<'a>, Refusal>
+        ensures refusal { outcome result ≡ body_refusal bytes.now }
+        ensures same { IfOk result (λ body. body.bytes.now ≡ bytes.now) }
+    {
+        if 65532 < bytes.len() || bytes.len() % 12 != 0 {
+            return Err(Refusal::Length);
+        }
+        Ok(Body { bytes })
     }
-    Reading::Strike(s, damage)
+
+    // How many cards it has.
+    #[tactic(auto, using(crate::specs::Bounds::good_length))]
+    pub fn count(&self) -> u32
+        ensures { result ≡ cards_in self.now.bytes.now }
+    {
+        (self.bytes.len() / 12) as u32
+    }
+
+    // A card, counted from 1, as twelve bytes from within the body: a strike with its damage, or refusal 3, 4 or 13.
+    pub fn card(&self, n: u32) -> Result<Reading, Refusal>
+        requires { (1 ≤ n) × (n ≤ cards_in self.now.bytes.now) }
+        ensures { read_reply result ≡ reading self.now.bytes.now n }
+    {
+        let n = n as usize;
+        read_symbols(symbols(&self.bytes[12 * (n - 1)..12 * n]))
+    }
 }
 
 // A card of a body, counted from 1: a strike with its damage, or a refusal: 2, then 9, then 3, 4 and 13 (document 01: Read).
-pub fn read_card(body: &[u8], number: u32) -> Reading
+#[tactic(auto, using(crate::specs::CardReading::read_past, crate::specs::CardReading::read_bad, crate::specs::Bodies::body_refused), unfolding(crate::specs::Reading::no_card))]
+pub fn read_card(body: &[u8], number: u32) -> Result<Reading, Refusal>
     ensures { read_reply result ≡ reading body.now number }
 {
-    if !body_good(body) {
-        return Reading::Refused(Refusal::Length);
+    let body = Body::new(body)?;
+    if number == 0 || body.count() < number {
+        return Err(Refusal::NoSuchCard);
     }
-    if no_card(body, number) {
-        return Reading::Refused(Refusal::NoSuchCard);
-    }
-    read_symbols(card_at(body, number as usize))
+    body.card(number)
 }

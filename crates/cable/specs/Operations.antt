@@ -1,17 +1,15 @@
 -- What the operations on levels refuse and answer (SPECIFICATION 8.18 to 8.22). A refusal leaves every list as it was.
-use Rattle.std.specs.Prelude.{false, ◌&&◌, not, cond, List, ℕ, eqb, ltb, length, ℤ, pos}
+use Rattle.std.specs.Prelude.{false, ◌&&◌, not, cond, List, ℕ, eqb, ltb, length, ℤ, pos, Result}
 use Rattle.algebra.specs.Tests.{any, any_above}
+use Rattle.refusal.specs.declared.Refusal.{Refusal}
 use Rattle.refusal.specs.declared.Refusal.TheVariants.{Range}
-use Rattle.refusal.specs.Replies.{number, Reply, replied, refused_with}
+use Rattle.refusal.specs.Replies.{number, Reply, reply_or}
 use Rattle.codec.specs.Operations.{tests}
 use Rattle.levels.specs.Levels.{outside}
-use Rattle.cable.specs.declared.SignedAnswer.{SignedAnswer}
-use Rattle.cable.specs.declared.SignedAnswer.TheVariants as answers
 
 -- what an answer in one signed number says
-abbrev pub signed_reply : SignedAnswer → Reply ℤ
-signed_reply (answers.Value n) = replied n
-signed_reply (answers.Refused r) = refused_with (pos 0) (number r)
+abbrev pub signed_reply : Result ℤ Refusal → Reply ℤ
+signed_reply r = reply_or (pos 0) r
 
 -- ONE SYMBOL, ONE NUMBER: 3 outside 0 to 728, or -364 to 364
 unfoldable pub signed_refusal : (symbol : ℕ) → ℕ

@@ -7,84 +7,64 @@ ghost use Rattle.levels.specs.Levels.{signed_of, outside, symbol_of};
 ghost use Rattle.cable.specs.Operations.{levels_refusal, symbols_refusal};
 
 use crate::numbers::{outside, signed_of, symbol_of};
-use refusal::{Outcome, Refusal};
+use refusal::Refusal;
 
 // Whether a number of the list is not -364 to 364.
 fn any_outside(numbers: &[i16]) -> bool
     ensures { result ≡ any outside numbers.now }
 {
-    let mut i = 0;
-    while i < numbers.len() {
-        let n = numbers[i];
-        if outside(n) {
-            return true;
-        }
-        i += 1;
-    }
-    false
+    numbers.iter().any(|&number| outside(number))
 }
 
-// 2 if the lists do not fit; 3 if a number is not -364 to 364.
-fn test_numbers(fit: bool, numbers: &[i16]) -> Outcome
+// 2 if the lists do not fit; 3 if a number is not -364 to 364. `codec::test_list` is the same of symbols: one function over a test that is passed
+// would be longer than both.
+#[tactic(auto, unfolding(codec::specs::Operations::tests))]
+fn test_numbers(fit: bool, numbers: &[i16]) -> Result<(), Refusal>
     ensures { outcome result ≡ tests false (not fit) (any outside numbers.now) }
 {
     if !fit {
-        return Outcome::Refused(Refusal::Length);
+        return Err(Refusal::Length);
     }
     if any_outside(numbers) {
-        return Outcome::Refused(Refusal::Range);
+        return Err(Refusal::Range);
     }
-    Outcome::Done
+    Ok(())
 }
 
-// The list gets the signed numbers of the symbols.
-fn fill_levels(card: &[u16], numbers: &mut [i16])
-    requires { length card.now ≡ length numbers.old }
-    ensures { numbers.new ≡ map signed_of card.now }
+// The signed numbers of the symbols of a card.
+fn levels_of(card: &[u16]) -> [i16; 6]
+    requires { length card.now ≡ 6 }
+    ensures { result ≡ map signed_of card.now }
 {
-    let mut i = 0;
-    while i < numbers.len() {
-        let n = signed_of(card[i]);
-        numbers[i] = n;
-        i += 1;
-    }
+    std::array::from_fn(|i| signed_of(card[i]))
 }
 
-// The list gets the symbols of the numbers.
-fn fill_symbols(numbers: &[i16], card: &mut [u16])
-    requires { (length numbers.now ≡ length card.old) × (any outside numbers.now ≡ false) }
-    ensures { card.new ≡ map symbol_of numbers.now }
+// The symbols of six signed numbers.
+fn symbols_of(numbers: &[i16]) -> [u16; 6]
+    requires { (length numbers.now ≡ 6) × (any outside numbers.now ≡ false) }
+    ensures { result ≡ map symbol_of numbers.now }
 {
-    let mut i = 0;
-    while i < card.len() {
-        let n = numbers[i];
-        card[i] = symbol_of(n);
-        i += 1;
-    }
+    std::array::from_fn(|i| symbol_of(numbers[i]))
 }
 
 // Fills the levels of a card, as six signed numbers (document 02, P6).
-pub fn levels(card: &[u16], numbers: &mut [i16]) -> Outcome
+#[tactic(auto, using(crate::specs::Steps::levels_passed, refusal::specs::Replies::gives_done), unfolding(crate::specs::Operations::levels_refusal))]
+pub fn levels(card: &[u16], numbers: &mut [i16]) -> Result<(), Refusal>
     ensures { Gives (levels_refusal card.now (length numbers.old)) (map signed_of card.now) numbers.old (outcome result) numbers.new }
 {
     let fit = codec::lengths_fit(card.len(), 6, numbers.len(), 6);
-    let tested = codec::test_list(fit, card, 728);
-    if let Outcome::Refused(why) = tested {
-        return Outcome::Refused(why);
-    }
-    fill_levels(card, numbers);
-    Outcome::Done
+    codec::test_list(fit, card, 728)?;
+    numbers.copy_from_slice(&levels_of(card));
+    Ok(())
 }
 
 // Fills the card of six signed numbers (document 02, P6).
-pub fn symbols(numbers: &[i16], card: &mut [u16]) -> Outcome
+#[tactic(auto, using(crate::specs::Steps::symbols_passed, refusal::specs::Replies::gives_done), unfolding(crate::specs::Operations::symbols_refusal))]
+pub fn symbols(numbers: &[i16], card: &mut [u16]) -> Result<(), Refusal>
     ensures { Gives (symbols_refusal numbers.now (length card.old)) (map symbol_of numbers.now) card.old (outcome result) card.new }
 {
     let fit = codec::lengths_fit(numbers.len(), 6, card.len(), 6);
-    let tested = test_numbers(fit, numbers);
-    if let Outcome::Refused(why) = tested {
-        return Outcome::Refused(why);
-    }
-    fill_symbols(numbers, card);
-    Outcome::Done
+    test_numbers(fit, numbers)?;
+    card.copy_from_slice(&symbols_of(numbers));
+    Ok(())
 }

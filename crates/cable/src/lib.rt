@@ -8,11 +8,3 @@ mod receiving;
 pub use cards::{levels, symbols};
 pub use numbers::{signed, symbol};
 pub use receiving::receive;
-use refusal::Refusal;
-
-// The answer of an operation that gives a signed number.
-#[derive(Clone, Copy)]
-pub enum SignedAnswer {
-    Value(i16),
-    Refused(Refusal),
-}

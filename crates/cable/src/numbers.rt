@@ -4,8 +4,7 @@ ghost use Rattle.refusal.specs.Replies.{reply, reply_with};
 ghost use Rattle.levels.specs.Levels.{level, signed_of, outside, symbol_of};
 ghost use Rattle.cable.specs.Operations.{signed_reply, signed_refusal, symbol_refusal};
 
-use crate::SignedAnswer;
-use refusal::{Answer, Refusal};
+use refusal::Refusal;
 
 // A plus on the cable; a minus is its negative.
 const PLUS: i16 = 1;
@@ -15,13 +14,11 @@ const PLUS: i16 = 1;
 fn level(d: u16) -> i16
     ensures { result ≡ level d }
 {
-    if d == 1 {
-        return PLUS;
+    match d {
+        1 => PLUS,
+        2 => -PLUS,
+        _ => 0,
     }
-    if d == 2 {
-        return -PLUS;
-    }
-    0
 }
 
 // A digit's level times its power of 3, and what the digits above it add up to.
@@ -33,6 +30,7 @@ fn add_level(d: u16, power: i16, above: i16) -> i16
 }
 
 // The signed number of a symbol.
+#[tactic(auto, using(std::proofs::lemmas::Int::ints), unfolding(levels::specs::Levels::signed_of, levels::specs::Levels::signed_from, algebra::specs::Field::digits, algebra::specs::Field::digits_of))]
 pub(crate) fn signed_of(v: u16) -> i16
     ensures { result ≡ signed_of v }
 {
@@ -50,19 +48,15 @@ pub(crate) fn signed_of(v: u16) -> i16
 }
 
 // Whether a number is not -364 to 364.
+#[tactic(auto, using(std::proofs::lemmas::Int::ints), unfolding(levels::specs::Levels::outside))]
 pub(crate) fn outside(n: i16) -> bool
     ensures { result ≡ outside n }
 {
-    if n < -364 {
-        return true;
-    }
-    if 364 < n {
-        return true;
-    }
-    false
+    n < -364 || 364 < n
 }
 
 // The symbol of a signed number: with 364 more each digit is its level plus 1, and 728 is 2 at each digit.
+#[tactic(auto, using(std::proofs::lemmas::Int::ints, crate::specs::Sizes::raised), unfolding(levels::specs::Levels::symbol_of))]
 pub(crate) fn symbol_of(n: i16) -> u16
     requires { outside n ≡ false }
     ensures { result ≡ symbol_of n }
@@ -71,23 +65,23 @@ pub(crate) fn symbol_of(n: i16) -> u16
 }
 
 // The signed number of a symbol (document 02, P6).
-pub fn signed(symbol: u16) -> SignedAnswer
+#[tactic(auto, using(std::proofs::lemmas::Int::ints, std::proofs::lemmas::Bool::Decides::nat_tests), unfolding(refusal::specs::Replies::reply_with, crate::specs::Operations::signed_refusal))]
+pub fn signed(symbol: u16) -> Result<i16, Refusal>
     ensures { signed_reply result ≡ reply_with (pos 0) (signed_refusal symbol) (signed_of symbol) }
 {
     if 728 < symbol {
-        return SignedAnswer::Refused(Refusal::Range);
+        return Err(Refusal::Range);
     }
-    let n = signed_of(symbol);
-    SignedAnswer::Value(n)
+    Ok(signed_of(symbol))
 }
 
 // The symbol of a signed number (document 02, P6).
-pub fn symbol(number: i16) -> Answer
+#[tactic(auto, using(std::proofs::lemmas::Int::ints), unfolding(refusal::specs::Replies::reply_with, crate::specs::Operations::symbol_refusal))]
+pub fn symbol(number: i16) -> Result<u32, Refusal>
     ensures { reply result ≡ reply_with 0 (symbol_refusal number) (symbol_of number) }
 {
     if outside(number) {
-        return Answer::Refused(Refusal::Range);
+        return Err(Refusal::Range);
     }
-    let v = symbol_of(number);
-    Answer::Value(v as u32)
+    Ok(symbol_of(number).into())
 }

@@ -4,12 +4,13 @@ ghost use Rattle.refusal.specs.Replies.{outcome, Gives};
 ghost use Rattle.levels.specs.Levels.{sample_digit, received_symbol, received};
 ghost use Rattle.cable.specs.Operations.{receive_refusal};
 
-use refusal::{Outcome, Refusal};
+use refusal::Refusal;
 
 // A sample from here on is plus, and from its negative down minus.
 const THRESHOLD: i16 = 8192;
 
 // The digit of the level that a sample falls to.
+#[tactic(auto, using(std::proofs::lemmas::Int::ints), unfolding(levels::specs::Levels::sample_digit, levels::specs::Levels::sample_level, levels::specs::Levels::level_digit))]
 fn sample_digit(sample: i16) -> u16
     ensures { (result ≡ sample_digit sample) × (result < 3) }
 {
@@ -37,26 +38,23 @@ fn received_symbol(samples: &[i16], j: usize) -> u16
     d0 + 3 * d1 + 9 * d2 + 27 * d3 + 81 * d4 + 243 * d5
 }
 
-// The list gets the symbols received.
-fn fill_received(samples: &[i16], card: &mut [u16])
-    requires { (length samples.now ≡ 36) × (length card.old ≡ 6) }
-    ensures { card.new ≡ received samples.now }
+// The card received.
+fn received(samples: &[i16]) -> [u16; 6]
+    requires { length samples.now ≡ 36 }
+    ensures { result ≡ received samples.now }
 {
-    let mut j = 0;
-    while j < 6 {
-        card[j] = received_symbol(samples, j);
-        j += 1;
-    }
+    std::array::from_fn(|j| received_symbol(samples, j))
 }
 
 // Fills the card received as samples (document 02, P6).
-pub fn receive(samples: &[i16], card: &mut [u16]) -> Outcome
+#[tactic(auto, using(crate::specs::Steps::receive_passed, crate::specs::Steps::receive_refused), unfolding(refusal::specs::Replies::unless))]
+pub fn receive(samples: &[i16], card: &mut [u16]) -> Result<(), Refusal>
     ensures { Gives (receive_refusal samples.now (length card.old)) (received samples.now) card.old (outcome result) card.new }
 {
     let fit = codec::lengths_fit(samples.len(), 36, card.len(), 6);
     if !fit {
-        return Outcome::Refused(Refusal::Length);
+        return Err(Refusal::Length);
     }
-    fill_received(samples, card);
-    Outcome::Done
+    card.copy_from_slice(&received(samples));
+    Ok(())
 }

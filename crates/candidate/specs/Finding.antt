@@ -1,7 +1,7 @@
 -- What decoding finds, as the code has it, and proposals checked against the card one after the other.
--- Main: found_message, Matches, Consistent, found_long, first_at, first_next, near_some, near_none, six_difference.
-use Rattle.std.specs.Prelude.{◌≡◌, refl, true, false, cond, List, ℕ, zero, suc, ◌+◌, ◌*◌, ◌-◌, ◌/◌, ◌≤◌, ◌<◌, length, take}
-use Rattle.std.proofs.Common.{sym, ap, ap₂, ◌∙◌, true≢false, add-one, arith, length-take, le-leb}
+-- Main: found_message, Matches, Consistent, found_long, found_fits, first_at, first_next, near_some, near_none, six_difference.
+use Rattle.std.specs.Prelude.{◌≡◌, refl, true, List, ℕ, zero, suc, ◌+◌, ◌*◌, ◌-◌, ◌/◌, ◌≤◌, ◌<◌, length}
+use Rattle.std.proofs.Common.{sym, ap, ap₂, ◌∙◌, add-one, arith, length-take, le-leb}
 use Rattle.std.proofs.Math.Option.{Option, none, some}
 use Rattle.std.proofs.Math.Decide.{ℕ_discrete}
 use Rattle.std.proofs.lemmas.Bool.{lt-leb}
@@ -13,39 +13,45 @@ use Rattle.coding.specs.Code.{word, radius, is_message}
 use Rattle.coding.specs.Coefficients.{word_long}
 use Rattle.coding.specs.Options.{or_else, first_of}
 use Rattle.coding.specs.Decode.{is_near, if_near}
+use Rattle.std.specs.Prelude.{Some, None, IfSome}
+use Rattle.std.specs.declared.option.Option as found
+use Rattle.codec.specs.Messages.{numbers_of}
 use Rattle.candidate.specs.declared.found.Found.{Found}
 
--- WHAT WAS FOUND
-unfoldable pub found_message : (k : ℕ) → Found → Option (List ℕ)
-found_message k r = cond r.found (some (take (2 * k) r.message)) none
+-- WHAT WAS FOUND: the message, if there is one
+unfoldable pub found_message : found.Option Found → Option (List ℕ)
+found_message (Some f) = some (numbers_of f.message)
+found_message None = none
 
--- with the message goes its word, and the weight of what that leaves
-pub record Matches (k : ℕ) (left : List ℕ → List ℕ) (r : Found) : Type 0 where
-  pub word_is : r.found ≡ true → r.word ≡ word k (take (2 * k) r.message)
-  pub weight_is : r.found ≡ true → r.weight ≡ weight_of (left r.word)
+-- it is one for k, and with it goes the weight of what its word leaves
+abbrev pub Matches : (k : ℕ) → (left : List ℕ → List ℕ) → found.Option Found → Type 0
+Matches k left r = IfSome r (λ f. (f.message.k.value ≡ k) × (f.weight ≡ weight_of (left f.word)))
 
 -- which is the difference to a card
-abbrev pub Consistent : (k : ℕ) → (card : List ℕ) → Found → Type 0
+abbrev pub Consistent : (k : ℕ) → (card : List ℕ) → found.Option Found → Type 0
 Consistent k c r = Matches k (λ w. difference w c) r
 
-pub message_some : (k : ℕ) (r : Found) → r.found ≡ true → found_message k r ≡ some (take (2 * k) r.message)
+pub message_some : (f : Found) → found_message (Some f) ≡ some (numbers_of f.message)
 unfolding found_message
-message_some k r e = rw e
+message_some f = refl
 
-pub message_none : (k : ℕ) (r : Found) → r.found ≡ false → found_message k r ≡ none
+pub message_none : found_message None ≡ none
 unfolding found_message
-message_none k r e = rw e
+message_none = refl
 
-pub matches_none : (k : ℕ) (left : List ℕ → List ℕ) (r : Found) → r.found ≡ false → Matches k left r
-matches_none k left r e = record { word_is = λ t. absurd (true≢false (sym t ∙ e)); weight_is = λ t. absurd (true≢false (sym t ∙ e)) }
-
--- a message that is found fills its place in the array, and so does its word
-pub found_long : (k : ℕ) (left : List ℕ → List ℕ) (r : Found) → Matches k left r → is_message k (take (2 * k) r.message) ≡ true → r.found ≡ true
-    → (length r.word ≡ 6) × (2 * k ≤ length r.message)
+-- it fills its place in the array, and so does its word
+pub found_long : (f : Found) → (length f.word ≡ 6) × (2 * f.message.k.value ≤ length f.message.numbers)
 unfolding is_message
-found_long k left r w e f =
-    let l = (passed (2 * k) 26 (take (2 * k) r.message) e).0 in
-    (ap length (w.word_is f) ∙ word_long k _, omega (arith, l, length-take (2 * k) r.message))
+found_long f =
+    let k = f.message.k.value in
+    let l = (passed (2 * k) 26 (numbers_of f.message) f.message.small).0 in
+    (ap length f.word_is ∙ word_long k _, omega (arith, l, length-take (2 * k) f.message.numbers))
+
+-- so lists of the right lengths have room for both
+pub found_fits : (k : ℕ) (left : List ℕ → List ℕ) (r : found.Option Found) (w m : List ℕ) → Matches k left r → length w ≡ 6 → length m ≡ 2 * k
+    → IfSome r (λ f. (length f.word ≡ length w) × (length m ≤ length f.message.numbers))
+found_fits k left None w m M a b = tt
+found_fits k left (Some f) w m (q, v) a b = let (lw, lm) = found_long f in (lw ∙ sym a, omega (arith, lm, b, q))
 
 -- A LOOP over proposals: none of the first i gave an answer
 pub first_none : (f : ℕ → Option (List ℕ)) → first_of 0 f ≡ none

@@ -2,10 +2,14 @@
 // damage, whose message needs no computing.
 #![tactic(auto)]
 
+mod card;
+mod checking;
 mod found;
 mod message;
 mod shape;
 
-pub use found::{Found, difference, near, nothing};
+pub use card::{Card, Received};
+pub use checking::{difference, near};
+pub use found::Found;
 pub use message::read_message;
-pub use shape::{clean, is_word, same, undamaged};
+pub use shape::{clean, is_word, undamaged};

@@ -1,10 +1,13 @@
 // The message read off the coefficients of a word's polynomial: the low number of the first, both of those in between, the high one of the
 // last.
-ghost use Rattle.std.specs.Prelude.{◌≡◌, suc, ◌*◌, ◌≤◌, take};
+ghost use Rattle.std.specs.Prelude.{◌≡◌, suc};
 ghost use Rattle.algebra.specs.Lists.{table};
 ghost use Rattle.rank.specs.Definitions.{at};
 ghost use Rattle.coding.specs.Coefficients.{read};
+ghost use Rattle.codec.specs.Messages.{numbers_of};
 ghost use Rattle.candidate.specs.Places.{leading_numbers};
+
+use codec::{Dimension, Message};
 
 // Its numbers but for the last, in their places.
 fn leading_numbers(f: [u16; 6]) -> [u16; 10]
@@ -24,12 +27,12 @@ fn leading_numbers(f: [u16; 6]) -> [u16; 10]
     ]
 }
 
-// The message for k, in the first 2k places.
-pub fn read_message(k: usize, f: [u16; 6]) -> [u16; 10]
-    requires { (1 ≤ k) × (k ≤ 5) }
-    ensures { take (2 * k) result ≡ read (table (suc k) (at f)) }
+// The message for k.
+pub fn read_message(k: Dimension, f: [u16; 6]) -> Message
+    ensures of_k { result.k ≡ k }
+    ensures numbers { numbers_of result ≡ read (table (suc k.value) (at f)) }
 {
-    let mut m = leading_numbers(f);
-    m[2 * k - 1] = field::high(f[k]);
-    m
+    let mut numbers = leading_numbers(f);
+    numbers[2 * k.value - 1] = field::high(f[k.value]);
+    Message { k, numbers }
 }

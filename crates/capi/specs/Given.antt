@@ -1,106 +1,72 @@
 -- What is given follows from the operations' answers.
--- Main: unless_none, unless_same, reply_given, given, refused_given, value_given, part_refused, part_given; reads_refused, reads_strike;
--- lists_refused, lists_tune; pulled_short.
-use Rattle.std.specs.Prelude.{◌≡◌, refl, Bool, true, false, cond, List, ℕ, ◌≤◌, eqb, length}
+-- Main: Says, itself, given; answer_says, reply_says, worn_says, offset_says, length_says.
+use Rattle.std.specs.Prelude.{◌≡◌, refl, List, ℕ, length, Result, Ok, Err, IfOk, IsOkAnd, MatchResult, unwrap_or}
+use Rattle.std.specs.Prelude as code
+use Rattle.std.specs.Result.{result_unwrap_or}
+use Rattle.std.proofs.Math.Option.{Option, none, some}
 use Rattle.std.proofs.Common.{sym, ap, ◌∙◌, ne_eqb}
+use Rattle.algebra.specs.Search.{or_zero}
 use Rattle.refusal.specs.declared.Refusal.{Refusal}
-use Rattle.refusal.specs.Replies.{number, refusal_some, Reply, replied, refused_with, reply_with, unless, Gives}
-use Rattle.rank.specs.declared.Weight.{Weight}
-use Rattle.strike.specs.declared.Strike.{Strike}
+use Rattle.refusal.specs.Replies.{number, outcome, refusal_some, Reply, reply_or, reply_with, reply_refused, reply_value, unless, Gives}
 use Rattle.book.specs.declared.entries.Entry.{Entry}
-use Rattle.book.specs.declared.entries.Entry.TheVariants as entries
-use Rattle.book.specs.declared.entries.Tune.{Tune}
-use Rattle.book.specs.declared.reading.Reading.{Reading}
-use Rattle.book.specs.declared.reading.Reading.TheVariants as readings
-use Rattle.book.specs.Pull.{pulled}
-use Rattle.book.proofs.Pulled.{pulled_good}
-use Rattle.book.specs.Entries.{tune_reply, tune_at}
-use Rattle.book.specs.Reading.{CardValue, read_reply, reading}
-use Rattle.book.specs.Bounds.{good_length}
-use Rattle.capi.specs.Calls.{Lists, Reads}
+use Rattle.book.specs.Layout.{offset, part_of}
+use Rattle.book.specs.Options.{option_of}
+use Rattle.book.specs.Pull.{entry_of, pull_refusal, pulled, pulled_from}
+use Rattle.book.specs.Bodies.{worn_reply}
+use Rattle.book.proofs.Pulled.{found_there}
 
--- A NUMBER AFTERWARDS: the answer where there is no refusal, else what it was
-pub unless_none : (n v old : ℕ) → n ≡ 0 → v ≡ unless n v old
+-- WHAT AN ANSWER SAYS: its refusal is n, and where there is none, f of its value is v
+abbrev pub Says : {A : Type 0} → (f : A → ℕ) → Result A Refusal → (n v : ℕ) → Type 0
+Says f a n v = (outcome a ≡ n) × IfOk a (λ x. f x ≡ v)
+
+-- an answer b in one number that is f of the value of an answer a
+abbrev pub IsOf : {A : Type 0} → (f : A → ℕ) → (a : Result A Refusal) → (b : Result ℕ Refusal) → Type 0
+IsOf f a b = MatchResult a (λ x. IsOkAnd b (λ y. y ≡ f x)) (λ e. b ≡ Err e)
+
+pub itself : (b : Result ℕ Refusal) → IsOf (λ x. x) b b
+itself (Ok x) = refl
+itself (Err e) = refl
+
+-- A NUMBER AFTERWARDS: the value where there is no refusal, else what it was
+pub given : {A : Type 0} (f : A → ℕ) (a : Result A Refusal) (n v : ℕ) → Says f a n v → (b : Result ℕ Refusal) → IsOf f a b
+    → (old r now : ℕ) → r ≡ outcome b → now ≡ result_unwrap_or b old → Gives n v old r now
 unfolding unless
-unless_none n v old e = rw e
+given f (Ok x) n v (e, s) (Ok y) q old r now p l = record { answers = p ∙ e; lent_is = rw (← e) (l ∙ q ∙ s) }
+given f (Ok x) n v (e, s) (Err y) q old r now p l = absurd q
+given f (Err x) n v (e, s) b q old r now p l = record {
+  answers = rw q at p ∙ e;
+  lent_is = rw (← e, ne_eqb (number x) 0 (refusal_some x)) (rw q at l);
+}
 
-pub unless_same : (n v old : ℕ) → (n ≡ 0 → ⊥) → old ≡ unless n v old
-unfolding unless
-unless_same n v old e = rw (ne_eqb n 0 e)
-
--- from an answer that replies s, or n and v, of which one number is given
+-- FROM WHAT AN ANSWER REPLIES
 module _ {A : Type 0} (f : A → ℕ) (empty : A) where
-  pub reply_given : (t s : Reply A) (old r now : ℕ) → t ≡ s → r ≡ t.refusal → now ≡ unless t.refusal (f t.value) old
-      → Gives s.refusal (f s.value) old r now
-  reply_given t s old r now e a g = record {
-    answers = a ∙ ap (λ (x : Reply A). x.refusal) e;
-    lent_is = g ∙ ap (λ (x : Reply A). unless x.refusal (f x.value) old) e;
-  }
+  pub reply_says : (a : Result A Refusal) (s : Reply A) → reply_or empty a ≡ s → Says f a s.refusal (f s.value)
+  reply_says (Ok x) s e = (ap (λ (t : Reply A). t.refusal) e, ap (λ (t : Reply A). f t.value) e)
+  reply_says (Err x) s e = (ap (λ (t : Reply A). t.refusal) e, tt)
 
-  given_value : (old : ℕ) (v : A) (b : Bool) → cond b (f (cond b v empty)) old ≡ cond b (f v) old
-  given_value old v true = refl
-  given_value old v false = refl
+  pub answer_says : (a : Result A Refusal) (n : ℕ) (v : A) → reply_or empty a ≡ reply_with empty n v → Says f a n (f v)
+  answer_says (Ok x) n v e = let (z, w) = reply_value empty n v x e in (sym z, ap f w)
+  answer_says (Err x) n v e = ((reply_refused empty n v x e).0, tt)
 
-  pub given : (t : Reply A) (n : ℕ) (v : A) (old r now : ℕ) → t ≡ reply_with empty n v → r ≡ t.refusal → now ≡ unless t.refusal (f t.value) old
-      → Gives n (f v) old r now
-  unfolding reply_with unless
-  given t n v old r now e a g =
-      let s = reply_given t (reply_with empty n v) old r now e a g in
-      record { answers = s.answers; lent_is = s.lent_is ∙ given_value old v (eqb n 0) }
+-- a card, or 0 for none
+zero_of : (o : code.Option ℕ) → unwrap_or o 0 ≡ or_zero (option_of o)
+zero_of code.None = refl
+zero_of (code.Some n) = refl
 
-  -- in code: a refusal leaves the number as it was, a value is given
-  pub refused_given : (t : Reply A) (x : Refusal) (m old : ℕ) → t ≡ refused_with empty (number x) → m ≡ number x
-      → (m ≡ t.refusal) × (old ≡ unless t.refusal (f t.value) old)
-  refused_given t x m old e q = rw e (q, unless_same _ _ _ (refusal_some x))
+pub worn_says : (a : Result (code.Option ℕ) Refusal) (n : ℕ) (v : Option ℕ) → worn_reply a ≡ reply_with none n v → Says (λ o. unwrap_or o 0) a n (or_zero v)
+worn_says (Ok o) n v e = let (z, w) = reply_value none n v (option_of o) e in (sym z, zero_of o ∙ ap or_zero w)
+worn_says (Err x) n v e = ((reply_refused none n v x e).0, tt)
 
-  pub value_given : (t : Reply A) (v : A) (old : ℕ) → t ≡ replied v → (0 ≡ t.refusal) × (f v ≡ unless t.refusal (f t.value) old)
-  value_given t v old e = rw e (refl, unless_none 0 (f v) old refl)
+-- a tune's part of the book, by the entry that was found
+module _ (bs : List ℕ) (t : ℕ) where
+  abbrev Found : Entry → Type 0
+  Found e = (e.book.now ≡ bs) × (entry_of bs t ≡ some e.place)
 
-  -- both together, for an answer of which several numbers are given
-  module _ (t : Reply A) (n : ℕ) (v : A) (e : t ≡ reply_with empty n v) (old : ℕ) where
-    pub part_refused : (x : Refusal) (m : ℕ) → t ≡ refused_with empty (number x) → m ≡ number x → Gives n (f v) old m old
-    part_refused x m p q = let (a, g) = refused_given t x m old p q in given t n v old m old e a g
+  pub offset_says : (a : Result Entry Refusal) → outcome a ≡ pull_refusal bs t → IfOk a Found → Says (λ (e : Entry). offset e.book.now e.place) a (pull_refusal bs t) (pulled_from bs t)
+  offset_says (Ok e) r (b, p) = (r, rw b (sym (found_there bs t e.place (sym r) p).begins))
+  offset_says (Err x) r q = (r, tt)
 
-    pub part_given : (w : A) → t ≡ replied w → Gives n (f v) old 0 (f w)
-    part_given w p = let (a, g) = value_given t w old p in given t n v old 0 (f w) e a g
-
--- READ
-module _ (bs : List ℕ) (n : ℕ) (r : Reading) (e : read_reply r ≡ reading bs n) where
-  pub reads_refused : (x : Refusal) (m b f d y : ℕ) → r ≡ readings.Refused x → m ≡ number x → Reads bs n b f d y m b f d y
-  reads_refused x m b f d y p q =
-      let z : number x ≡ (reading bs n).refusal = ap (λ (t : Reply CardValue). t.refusal) (rw p at e) in
-      let s : (reading bs n).refusal ≡ 0 → ⊥ = λ w. refusal_some x (z ∙ w) in
-      record { answers = q ∙ z; bell_is = unless_same _ _ _ s; force_is = unless_same _ _ _ s; delay_is = unless_same _ _ _ s; damage_is = unless_same _ _ _ s }
-
-  pub reads_strike : (s : Strike) (w : Weight) (b f d y : ℕ) → r ≡ readings.Strike s w → Reads bs n b f d y 0 s.bell s.force s.delay w.rank
-  reads_strike s w b f d y p =
-      let t = rw p at e in
-      let z : 0 ≡ (reading bs n).refusal = ap (λ (x : Reply CardValue). x.refusal) t in
-      record {
-        answers = z;
-        bell_is = ap (λ (x : Reply CardValue). x.value.strike.bell) t ∙ unless_none _ _ _ (sym z);
-        force_is = ap (λ (x : Reply CardValue). x.value.strike.force) t ∙ unless_none _ _ _ (sym z);
-        delay_is = ap (λ (x : Reply CardValue). x.value.strike.delay) t ∙ unless_none _ _ _ (sym z);
-        damage_is = ap (λ (x : Reply CardValue). x.value.damage.rank) t ∙ unless_none _ _ _ (sym z);
-      }
-
--- A TUNE BY ITS PLACE
-module _ (bs : List ℕ) (e n c : ℕ) (r : Entry) (l : tune_reply r ≡ tune_at bs e) where
-  pub lists_refused : (x : Refusal) (m : ℕ) → r ≡ entries.Refused x → m ≡ number x → Lists bs e n c m n c
-  lists_refused x m p q =
-      let z : number x ≡ (tune_at bs e).refusal = ap (λ (t : Reply Tune). t.refusal) (rw p at l) in
-      let s : (tune_at bs e).refusal ≡ 0 → ⊥ = λ y. refusal_some x (z ∙ y) in
-      record { answers = q ∙ z; number_is = unless_same _ _ _ s; cards_is = unless_same _ _ _ s }
-
-  pub lists_tune : (t : Tune) → r ≡ entries.Tune t → Lists bs e n c 0 t.number t.cards
-  lists_tune t p =
-      let z : 0 ≡ (tune_at bs e).refusal = ap (λ (x : Reply Tune). x.refusal) (rw p at l) in
-      record {
-        answers = z;
-        number_is = ap (λ (x : Reply Tune). x.value.number) (rw p at l) ∙ unless_none _ _ _ (sym z);
-        cards_is = ap (λ (x : Reply Tune). x.value.cards) (rw p at l) ∙ unless_none _ _ _ (sym z);
-      }
-
--- PULL: a pulled part is short enough for its length to be a number of 32 bits
-pub pulled_short : (bs : List ℕ) (t : ℕ) → length (pulled bs t) ≤ 65532
-pulled_short bs t = good_length (pulled bs t) (pulled_good bs t)
+  pub length_says : (a : Result Entry Refusal) → outcome a ≡ pull_refusal bs t → IfOk a Found
+      → Says (λ (e : Entry). length (part_of e.book.now e.place)) a (pull_refusal bs t) (length (pulled bs t))
+  length_says (Ok e) r (b, p) = (r, rw b (sym (ap length (found_there bs t e.place (sym r) p).part)))
+  length_says (Err x) r q = (r, tt)

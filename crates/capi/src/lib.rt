@@ -3,81 +3,34 @@
 #![tactic(auto)]
 
 ghost use Rattle.std.specs.Prelude.{◌≡◌, map, length};
+ghost use Rattle.std.specs.Result.{result_unwrap_or};
 ghost use Rattle.algebra.specs.Search.{or_zero};
-ghost use Rattle.refusal.specs.Replies.{reply, unless, Gives};
-ghost use Rattle.rank.specs.Weight.{weight_of, weight_reply, weight_refusal};
+ghost use Rattle.refusal.specs.Replies.{outcome, Gives};
+ghost use Rattle.rank.specs.Weight.{weight_of, weight_refusal};
 ghost use Rattle.levels.specs.Levels.{signed_of, symbol_of, received};
 ghost use Rattle.cable.specs.Operations.{levels_refusal, symbols_refusal, receive_refusal};
 ghost use Rattle.book.specs.Layout.{tunes};
 ghost use Rattle.book.specs.Open.{open_refusal};
-ghost use Rattle.book.specs.Bodies.{body_refusal, total_delay, first_damaged, worn_reply};
+ghost use Rattle.book.specs.Bodies.{body_refusal, total_delay, first_damaged};
 ghost use Rattle.wear.specs.Wear.{worst_run, wear_refusal};
 ghost use Rattle.writer.specs.Writing.{book_length, size_refusal};
 ghost use Rattle.capi.specs.Calls.{Encodes, Tests, Decodes, DecodesDead, Pulls, Lists, Reads, Writes, Fills};
 
-use book::{Entry, Reading, Worn};
-use rank::Weighed;
-use refusal::Answer;
+use book::Entry;
+use refusal::Refusal;
 use report::Kind;
-use wear::Wear;
 
 // An answer in two numbers: the refusal's number is returned, and the value is given where there is none.
-fn give(a: Answer, value: &mut u32) -> u32
-    ensures refusal { result ≡ (reply a).refusal }
-    ensures given { value.new ≡ unless (reply a).refusal (reply a).value value.old }
+fn give<T: Copy>(answer: Result<T, Refusal>, value: &mut T) -> u32
+    ensures refusal { result ≡ outcome answer }
+    ensures given { value.new ≡ result_unwrap_or answer value.old }
 {
-    match a {
-        Answer::Refused(why) => refusal::number(why),
-        Answer::Value(v) => {
+    match answer {
+        Ok(v) => {
             *value = v;
             0
         },
-    }
-}
-
-// The same of a value that is a size, in bytes.
-fn give_size(a: Answer, size: &mut usize) -> u32
-    ensures refusal { result ≡ (reply a).refusal }
-    ensures given { size.new ≡ unless (reply a).refusal (reply a).value size.old }
-{
-    match a {
-        Answer::Refused(why) => refusal::number(why),
-        Answer::Value(v) => {
-            *size = v as usize;
-            0
-        },
-    }
-}
-
-// The same of an answer that holds a weight, of which the rank is given.
-fn give_rank(a: Weighed, rank: &mut u32) -> u32
-    ensures refusal { result ≡ (weight_reply a).refusal }
-    ensures given { rank.new ≡ unless (weight_reply a).refusal (weight_reply a).value.rank rank.old }
-{
-    match a {
-        Weighed::Refused(why) => refusal::number(why),
-        Weighed::Weight(weight) => {
-            *rank = weight.rank;
-            0
-        },
-    }
-}
-
-// The same of an answer that names a card, or none.
-fn give_card(a: Worn, card: &mut u32) -> u32
-    ensures refusal { result ≡ (worn_reply a).refusal }
-    ensures given { card.new ≡ unless (worn_reply a).refusal (or_zero (worn_reply a).value) card.old }
-{
-    match a {
-        Worn::Refused(why) => refusal::number(why),
-        Worn::Card(n) => {
-            *card = n;
-            0
-        },
-        Worn::Nothing => {
-            *card = 0;
-            0
-        },
+        Err(why) => why.into(),
     }
 }
 
@@ -94,7 +47,7 @@ pub extern "C" fn lucetcoral_encode(k: u32, message: &[u16], word: &mut [u16]) -
 pub extern "C" fn lucetcoral_weight(symbols: &[u16], rank: &mut u32) -> u32
     ensures { Gives (weight_refusal symbols.now) (weight_of symbols.now).rank rank.old result rank.new }
 {
-    give_rank(rank::weigh(symbols), rank)
+    give(rank::weigh(symbols).map(|weight| weight.rank), rank)
 }
 
 // The test values of a card (document 01: Test).
@@ -116,7 +69,8 @@ pub extern "C" fn lucetcoral_decode(
 ) -> u32
     ensures { Decodes k received.now word.old message.old distance.old result word.new message.new distance.new }
 {
-    give_rank(decoder::decode(k, received, word, message), distance)
+    let weight = decoder::decode(k, received, word, message);
+    give(weight.map(|weight| weight.rank), distance)
 }
 
 // The word near a card but for its dead lines, its message, and the rank of what is left of the difference (document 02, P4).
@@ -171,6 +125,7 @@ pub extern "C" fn lucetcoral_open(book: &[u8], count: &mut u32) -> u32
 }
 
 // A tune's part of the book, as its offset and its length (document 01: Pull).
+#[tactic(auto, using(book::specs::Bounds::good_length))]
 #[unsafe(no_mangle)]
 pub extern "C" fn lucetcoral_tune_body(
     book: &[u8],
@@ -180,14 +135,9 @@ pub extern "C" fn lucetcoral_tune_body(
 ) -> u32
     ensures { Pulls book.now number offset.old length.old result offset.new length.new }
 {
-    match book::tune_place(book, number) {
-        Answer::Refused(why) => refusal::number(why),
-        Answer::Value(e) => {
-            *offset = book::offset_at(book, e as usize);
-            *length = book::body_at(book, e as usize).len() as u32;
-            0
-        },
-    }
+    let entry = Entry::find(book, number);
+    give(entry.map(|entry| entry.offset()), offset);
+    give(entry.map(|entry| entry.body().bytes.len() as u32), length)
 }
 
 // The tune at a place of the contents.
@@ -200,14 +150,9 @@ pub extern "C" fn lucetcoral_tune_at(
 ) -> u32
     ensures { Lists book.now place number.old cards.old result number.new cards.new }
 {
-    match book::tune_at(book, place) {
-        Entry::Refused(why) => refusal::number(why),
-        Entry::Tune(tune) => {
-            *number = tune.number;
-            *cards = tune.cards;
-            0
-        },
-    }
+    let tune = book::tune_at(book, place);
+    give(tune.map(|tune| tune.number), number);
+    give(tune.map(|tune| tune.cards), cards)
 }
 
 // A card of a body: its strike and the rank of its damage (document 01: Read).
@@ -222,16 +167,11 @@ pub extern "C" fn lucetcoral_read_card(
 ) -> u32
     ensures { Reads body.now number bell.old force.old delay.old damage.old result bell.new force.new delay.new damage.new }
 {
-    match book::read_card(body, number) {
-        Reading::Refused(why) => refusal::number(why),
-        Reading::Strike(s, weight) => {
-            *bell = s.bell;
-            *force = s.force;
-            *delay = s.delay;
-            *damage = weight.rank;
-            0
-        },
-    }
+    let read = book::read_card(body, number);
+    give(read.map(|read| read.strike.bell), bell);
+    give(read.map(|read| read.strike.force), force);
+    give(read.map(|read| read.strike.delay), delay);
+    give(read.map(|read| read.damage.rank), damage)
 }
 
 // The sum of the delays of all cards, or the refusal of the first card that is refused (document 01: Length).
@@ -247,7 +187,7 @@ pub extern "C" fn lucetcoral_total_delay(body: &[u8], ticks: &mut u32) -> u32
 pub extern "C" fn lucetcoral_damaged_card(body: &[u8], card: &mut u32) -> u32
     ensures { Gives (body_refusal body.now) (or_zero (first_damaged body.now)) card.old result card.new }
 {
-    give_card(book::damaged_card(body), card)
+    give(book::damaged_card(body).map(|card| card.unwrap_or(0)), card)
 }
 
 // The largest sum of wear over `width` cards in a row, and the first card at which such a run begins (document 02, P7).
@@ -256,14 +196,9 @@ pub extern "C" fn lucetcoral_wear(body: &[u8], width: u32, sum: &mut u32, first:
     ensures sum_given { Gives (wear_refusal body.now width) (worst_run body.now width).sum sum.old result sum.new }
     ensures first_given { Gives (wear_refusal body.now width) (worst_run body.now width).first first.old result first.new }
 {
-    match wear::worst_run(body, width) {
-        Wear::Refused(why) => refusal::number(why),
-        Wear::Run(run) => {
-            *sum = run.sum;
-            *first = run.first;
-            0
-        },
-    }
+    let run = wear::worst_run(body, width);
+    give(run.map(|run| run.sum), sum);
+    give(run.map(|run| run.first), first)
 }
 
 // The listing of a book.
@@ -271,7 +206,8 @@ pub extern "C" fn lucetcoral_wear(body: &[u8], width: u32, sum: &mut u32, first:
 pub extern "C" fn lucetcoral_list(book: &[u8], text: &mut [u8], written: &mut usize) -> u32
     ensures { Writes book.now text.old written.old result text.new written.new }
 {
-    give_size(report::write_report(Kind::Listing, book, text), written)
+    let size = report::write_report(Kind::Listing, book, text);
+    give(size.map(|size| size as usize), written)
 }
 
 // A book filled from tune numbers, counts of cards and strikes.
@@ -292,5 +228,5 @@ pub extern "C" fn lucetcoral_write_book(
 pub extern "C" fn lucetcoral_book_size(counts: &[u16], size: &mut usize) -> u32
     ensures { Gives (size_refusal counts.now) (book_length counts.now) size.old result size.new }
 {
-    give_size(writer::book_size(counts), size)
+    give(writer::book_size(counts).map(|size| size as usize), size)
 }

@@ -13,47 +13,38 @@ mod tunes;
 
 ghost use Rattle.cases.specs.Counts.{IsPrefixLen};
 
+use parse::Words;
 use std::io::Read;
 
-fn run(out: &impl Print, line: &[u8]) {
-    let operation = parse::number(line, 0);
-    let at = operation.at;
-    let which = operation.value;
-    match which {
-        1 => code::encode(out, line, at),
-        2 => code::weigh(out, line, at),
-        3 => code::syndrome(out, line, at),
-        4 => code::decode(out, line, at),
-        5 => tunes::open(out, line, at),
-        6 => tunes::tune_body(out, line, at),
-        7 => tunes::read_card(out, line, at),
-        8 => tunes::total_delay(out, line, at),
-        9 => tunes::damaged_card(out, line, at),
-        10 => tunes::tune_at(out, line, at),
-        11 => books::write_book(out, line, at),
-        12 => books::book_size(out, line, at),
-        13 => code::decode_dead(out, line, at),
-        14 => level_calls::signed(out, line, at),
-        15 => level_calls::symbol(out, line, at),
-        16 => level_calls::levels(out, line, at),
-        17 => level_calls::symbols(out, line, at),
-        18 => level_calls::receive(out, line, at),
-        19 => tunes::worst_run(out, line, at),
+fn run(out: &impl Print, words: &mut Words) {
+    // The numbers of the operations stand here alone: an enum of them would say each once more.
+    match words.number::<u32>() {
+        1 => code::encode(out, words),
+        2 => code::weigh(out, words),
+        3 => code::syndrome(out, words),
+        4 => code::decode(out, words),
+        5 => tunes::open(out, words),
+        6 => tunes::tune_body(out, words),
+        7 => tunes::read_card(out, words),
+        8 => tunes::total_delay(out, words),
+        9 => tunes::damaged_card(out, words),
+        10 => tunes::tune_at(out, words),
+        11 => books::write_book(out, words),
+        12 => books::book_size(out, words),
+        13 => code::decode_dead(out, words),
+        14 => level_calls::signed(out, words),
+        15 => level_calls::symbol(out, words),
+        16 => level_calls::levels(out, words),
+        17 => level_calls::symbols(out, words),
+        18 => level_calls::receive(out, words),
+        19 => tunes::worst_run(out, words),
         _ => {},
     }
     let _ = out.println("");
 }
 
-fn run_lines(out: &impl Print, text: &[u8]) {
-    let mut at = 0;
-    while at < text.len() {
-        let end = parse::line_end(text, at);
-        run(out, &text[at..end]);
-        at = end;
-    }
-}
-
-// Reads until the input ends, a read fails or the buffer is full, and answers how many bytes were put at the start of the buffer.
+// Reads until the input ends, a read fails or the buffer is full, and answers how many bytes were put at the start of the buffer. The library's
+// loops over `read` want a heap, or an input whose length is known before.
 fn read_full(from: &mut impl Read, buffer: &mut [u8]) -> usize
     ensures { IsPrefixLen result buffer.new }
 {
@@ -61,7 +52,7 @@ fn read_full(from: &mut impl Read, buffer: &mut [u8]) -> usize
     while end < buffer.len() {
         let got = from.read(&mut buffer[end..]).unwrap_or(0);
         if got == 0 {
-            return end;
+            break;
         }
         end += got;
     }
@@ -71,5 +62,7 @@ fn read_full(from: &mut impl Read, buffer: &mut [u8]) -> usize
 fn main(rt: HostRuntime) {
     let mut buffer = [0u8; 131072];
     let n = read_full(&mut rt.stdin(), &mut buffer);
-    run_lines(&rt, &buffer[..n]);
+    for line in buffer[..n].split_inclusive(|byte| *byte == b'\n') {
+        run(&rt, &mut Words::new(line));
+    }
 }

@@ -1,173 +1,87 @@
-// Decimal numbers, lists and lines from a text. Whatever is no digit separates numbers; a number that is missing is 0.
-ghost use Rattle.std.specs.Prelude.{◌≡◌, ◌<◌, ◌≤◌, length, take};
-ghost use Rattle.cases.specs.Counts.{IsPrefixLen};
+// Decimal numbers and lists of them, read from a line one after the other. Whatever is no digit separates numbers; a number that is missing
+// is 0.
 
-// A number, and where it ends in the text.
+// A number as it is written: its digits, by their remainder by 2^32, and whether a minus sign stands directly before them.
 #[derive(Clone, Copy)]
-pub struct Parsed {
-    pub value: u32,
-    pub at: usize,
+pub struct Written {
+    digits: u32,
+    minus: bool,
 }
 
-// How many values were put into a list, and where it ends in the text.
-#[derive(Clone, Copy)]
-pub struct Filled {
-    pub count: usize,
-    pub at: usize,
+// Where a sign means nothing a number counts by its remainder.
+impl From<Written> for u32 {
+    fn from(number: Written) -> u32 {
+        number.digits
+    }
 }
 
-// Where the line that begins at `at` ends, past its line end.
-pub(crate) fn line_end(text: &[u8], at: usize) -> usize
-    requires { at < length text.now }
-    ensures { (at < result) × (result ≤ length text.now) }
-{
-    let mut i = at;
-    while i < text.len() {
-        let byte = text[i];
-        i += 1;
-        if byte == b'\n' {
-            return i;
+impl From<Written> for u16 {
+    fn from(number: Written) -> u16 {
+        (number.digits % 65536) as u16
+    }
+}
+
+impl From<Written> for u8 {
+    fn from(number: Written) -> u8 {
+        (number.digits % 256) as u8
+    }
+}
+
+// A signed number that does not fit is 0.
+impl From<Written> for i16 {
+    fn from(number: Written) -> i16 {
+        let size = i64::from(number.digits);
+        i16::try_from(if number.minus { -size } else { size }).unwrap_or(0)
+    }
+}
+
+// What is left of a line.
+#[derive(Drop)]
+pub struct Words<'a> {
+    left: &'a [u8],
+}
+
+impl<'a> Words<'a> {
+    pub(crate) fn new(line: &'a [u8]) -> Words<'a> {
+        Words { left: line }
+    }
+
+    // Takes what stands before the first byte that is a digit, or before the first that is none.
+    fn take_until(&mut self, digit: bool) -> &'a [u8] {
+        let end = self
+            .left
+            .iter()
+            .position(|byte| byte.is_ascii_digit() == digit)
+            .unwrap_or(self.left.len());
+        let (taken, left) = self.left.split_at(end);
+        self.left = left;
+        taken
+    }
+
+    fn next(&mut self) -> Written {
+        let before = self.take_until(true);
+        let digits = self.take_until(false);
+        Written {
+            digits: digits.iter().fold(0u32, |value, digit| {
+                value
+                    .wrapping_mul(10)
+                    .wrapping_add(u32::from(digit.wrapping_sub(b'0')))
+            }),
+            minus: before.last() == Some(&b'-'),
         }
     }
-    i
-}
 
-// The value of a digit, or a number above 9 for any other byte.
-fn digit_value(byte: u8) -> u8 {
-    byte.wrapping_sub(b'0')
-}
+    pub(crate) fn number<T: From<Written>>(&mut self) -> T {
+        T::from(self.next())
+    }
 
-// The first digit from `at` on.
-fn digit_from(text: &[u8], at: usize) -> usize {
-    let mut i = at;
-    while i < text.len() {
-        if digit_value(text[i]) < 10 {
-            return i;
+    // Puts the next list into one that is lent, and gives the part of that which it fills. What does not fit is left out.
+    pub(crate) fn list<'b, T: From<Written> + Copy>(&mut self, list: &'b mut [T]) -> &'b mut [T] {
+        let count = list.len().min(self.number::<u32>() as usize);
+        let filled = &mut list[..count];
+        for value in filled.iter_mut() {
+            *value = self.number();
         }
-        i += 1;
-    }
-    i
-}
-
-// A number with one digit more, by its remainder by 2^32.
-fn appended(value: u32, last: u8) -> u32 {
-    ((10 * (value as u64) + (last as u64)) % 4294967296) as u32
-}
-
-// The first number from `at` on.
-pub(crate) fn number(text: &[u8], at: usize) -> Parsed {
-    let mut value = 0;
-    let mut i = digit_from(text, at);
-    while i < text.len() {
-        let next = digit_value(text[i]);
-        if 9 < next {
-            return Parsed {
-                value: value,
-                at: i,
-            };
-        }
-        value = appended(value, next);
-        i += 1;
-    }
-    Parsed {
-        value: value,
-        at: i,
-    }
-}
-
-fn least(a: usize, b: usize) -> usize
-    ensures { result ≤ b }
-{
-    if a < b { a } else { b }
-}
-
-// The first list from `at` on, as symbols or message values. What does not fit is left out.
-pub(crate) fn symbols(text: &[u8], at: usize, list: &mut [u16]) -> Filled
-    ensures { IsPrefixLen result.count list.new }
-{
-    let length = number(text, at);
-    let count = least(length.value as usize, list.len());
-    let mut at = length.at;
-    let mut i = 0;
-    while i < count {
-        let next = number(text, at);
-        list[i] = (next.value % 65536) as u16;
-        at = next.at;
-        i += 1;
-    }
-    Filled {
-        count: count,
-        at: at,
-    }
-}
-
-// As `symbols`, of bytes.
-pub(crate) fn bytes(text: &[u8], at: usize, list: &mut [u8]) -> Filled
-    ensures { IsPrefixLen result.count list.new }
-{
-    let length = number(text, at);
-    let count = least(length.value as usize, list.len());
-    let mut at = length.at;
-    let mut i = 0;
-    while i < count {
-        let next = number(text, at);
-        list[i] = (next.value % 256) as u8;
-        at = next.at;
-        i += 1;
-    }
-    Filled {
-        count: count,
-        at: at,
-    }
-}
-
-// Whether a minus sign stands directly before a place of the text.
-fn minus_before(text: &[u8], at: usize) -> bool {
-    if at == 0 {
-        return false;
-    }
-    if text.len() < at {
-        return false;
-    }
-    text[at - 1] == b'-'
-}
-
-// A number of this size and sign, or 0 if it does not fit 16 bits.
-fn with_sign(size: u32, minus: bool) -> i16 {
-    if 32768 < size {
-        return 0;
-    }
-    if minus {
-        return (-(size as i32)) as i16;
-    }
-    if size == 32768 {
-        return 0;
-    }
-    size as i16
-}
-
-// The first signed number from `at` on. A minus sign stands directly before its digits.
-pub(crate) fn signed(text: &[u8], at: usize) -> i16 {
-    let minus = minus_before(text, digit_from(text, at));
-    with_sign(number(text, at).value, minus)
-}
-
-// As `symbols`, of signed numbers.
-pub(crate) fn signed_numbers(text: &[u8], at: usize, list: &mut [i16]) -> Filled
-    ensures { (result.count ≤ length list.new) × (result.count ≡ length (take result.count list.new)) }
-{
-    let length = number(text, at);
-    let count = least(length.value as usize, list.len());
-    let mut at = length.at;
-    let mut i = 0;
-    while i < count {
-        let next = signed(text, at);
-        list[i] = next;
-        at = number(text, at).at;
-        i += 1;
-    }
-    Filled {
-        count: count,
-        at: at,
+        filled
     }
 }

@@ -1,61 +1,63 @@
 // Calls of the operations of tune books, read from a line and run. Of a book or a body the first 4,096 bytes are taken.
 // No contract can say what is written.
-use crate::{parse, print};
-use refusal::Outcome;
+use crate::parse::Words;
+use crate::print;
 
-pub(crate) fn open(out: &impl Print, line: &[u8], at: usize) {
+pub(crate) fn open(out: &impl Print, words: &mut Words) {
     let mut bytes = [0u8; 4096];
-    let b = parse::bytes(line, at, &mut bytes);
-    print::answer(out, book::open(&bytes[..b.count]));
+    let bytes = words.list(&mut bytes);
+    print::answer(out, book::open(bytes).map(|count| [count]));
 }
 
-fn run_tune_body(out: &impl Print, bytes: &[u8], number: u32) {
-    match book::find_tune(bytes, number) {
-        Outcome::Refused(why) => print::refused(out, why),
-        Outcome::Done => {
-            print::done(out);
-            print::number(out, book::tune_offset(bytes, number) as u64);
-            print::number(out, book::tune_body(bytes, number).len() as u64);
-        },
-    }
+pub(crate) fn tune_body(out: &impl Print, words: &mut Words) {
+    let mut bytes = [0u8; 4096];
+    let number = words.number();
+    let bytes = words.list(&mut bytes);
+    let place = book::find_tune(bytes, number).map(|()| {
+        let start = book::tune_offset(bytes, number);
+        let body = book::tune_body(bytes, number);
+        [start as usize, body.len()]
+    });
+    print::answer(out, place);
 }
 
-pub(crate) fn tune_body(out: &impl Print, line: &[u8], at: usize) {
+pub(crate) fn read_card(out: &impl Print, words: &mut Words) {
     let mut bytes = [0u8; 4096];
-    let number = parse::number(line, at);
-    let b = parse::bytes(line, number.at, &mut bytes);
-    run_tune_body(out, &bytes[..b.count], number.value);
+    let number = words.number();
+    let bytes = words.list(&mut bytes);
+    let numbers = book::read_card(bytes, number).map(|reading| {
+        let strike = reading.strike;
+        [strike.bell, strike.force, strike.delay, reading.damage.rank]
+    });
+    print::answer(out, numbers);
 }
 
-pub(crate) fn read_card(out: &impl Print, line: &[u8], at: usize) {
+pub(crate) fn total_delay(out: &impl Print, words: &mut Words) {
     let mut bytes = [0u8; 4096];
-    let number = parse::number(line, at);
-    let b = parse::bytes(line, number.at, &mut bytes);
-    print::reading(out, book::read_card(&bytes[..b.count], number.value));
+    let bytes = words.list(&mut bytes);
+    print::answer(out, book::total_delay(bytes).map(|ticks| [ticks]));
 }
 
-pub(crate) fn total_delay(out: &impl Print, line: &[u8], at: usize) {
+// Card 0 says that no card is damaged.
+pub(crate) fn damaged_card(out: &impl Print, words: &mut Words) {
     let mut bytes = [0u8; 4096];
-    let b = parse::bytes(line, at, &mut bytes);
-    print::answer(out, book::total_delay(&bytes[..b.count]));
+    let bytes = words.list(&mut bytes);
+    let card = book::damaged_card(bytes);
+    print::answer(out, card.map(|card| [card.unwrap_or(0)]));
 }
 
-pub(crate) fn damaged_card(out: &impl Print, line: &[u8], at: usize) {
+pub(crate) fn worst_run(out: &impl Print, words: &mut Words) {
     let mut bytes = [0u8; 4096];
-    let b = parse::bytes(line, at, &mut bytes);
-    print::worn(out, book::damaged_card(&bytes[..b.count]));
+    let width = words.number();
+    let bytes = words.list(&mut bytes);
+    let run = wear::worst_run(bytes, width);
+    print::answer(out, run.map(|run| [run.sum, run.first]));
 }
 
-pub(crate) fn worst_run(out: &impl Print, line: &[u8], at: usize) {
+pub(crate) fn tune_at(out: &impl Print, words: &mut Words) {
     let mut bytes = [0u8; 4096];
-    let width = parse::number(line, at);
-    let b = parse::bytes(line, width.at, &mut bytes);
-    print::run(out, wear::worst_run(&bytes[..b.count], width.value));
-}
-
-pub(crate) fn tune_at(out: &impl Print, line: &[u8], at: usize) {
-    let mut bytes = [0u8; 4096];
-    let place = parse::number(line, at);
-    let b = parse::bytes(line, place.at, &mut bytes);
-    print::tune(out, book::tune_at(&bytes[..b.count], place.value));
+    let place = words.number();
+    let bytes = words.list(&mut bytes);
+    let tune = book::tune_at(bytes, place);
+    print::answer(out, tune.map(|tune| [tune.number, tune.cards]));
 }

@@ -2,14 +2,18 @@
 // begin with. Decoding stands in a crate above.
 #![tactic(auto)]
 
+mod dimension;
 mod encoding;
+mod message;
 mod packed;
 mod slots;
 mod spectra;
 mod syndromes;
 mod tests;
 
-pub use encoding::{encode, word_of};
+pub use dimension::Dimension;
+pub use encoding::encode;
+pub use message::Message;
 pub use spectra::spectrum;
 pub use syndromes::syndrome;
 pub use tests::{lengths_fit, test_input, test_list};

@@ -1,11 +1,13 @@
 // Linear functions by packed digits: a u64 holds nine counts, in base 128, so that one product and one sum serve nine digits of a value. The
-// remainders of the counts by 3 are taken once, at the end. Rows are given as constants, so that products with them need no table.
-ghost use Rattle.std.specs.Prelude.{◌≡◌, true, ◌+◌, ◌*◌, ◌%◌, ◌≤◌, ◌<◌, get_or};
+// remainders of the counts by 3 are taken once, at the end.
+ghost use Rattle.std.specs.Prelude.{◌≡◌, true, ◌+◌, ◌*◌, ◌%◌, ◌≤◌, ◌<◌};
 ghost use Rattle.algebra.specs.Field.{digits};
-ghost use Rattle.transform.specs.Packed.{bounded, IsRow, AreRows, OfRows, add_row, add_three_rows, add_rows, small_digits, add_small_rows, symbols_of};
+ghost use Rattle.transform.specs.Packed.{no_counts, IsRow, AreRows, AreTables, OfRows, add_row, add_rows, small_digits, add_small_rows, symbols_of};
 ghost use Rattle.transform.specs.Remainders.{remainders, halves};
+ghost use Rattle.transform.specs.Counts.{added};
 
 // The six digits of a number.
+#[tactic(auto, using(transform::specs::Packed::digits_are))]
 fn digits(x: u16) -> [u64; 6]
     ensures { result ≡ digits x }
 {
@@ -18,7 +20,8 @@ fn digits(x: u16) -> [u64; 6]
     [a - 3 * b, b - 3 * c, c - 3 * d, d - 3 * e, e - 3 * f, f % 3]
 }
 
-// The three digits of a small number.
+// The three digits of a small number. Not by `digits`: the last is the quotient itself, with no remainder taken.
+#[tactic(auto, using(transform::specs::Packed::small_digits_are))]
 fn small_digits(x: u16) -> [u64; 3]
     requires { x < 27 }
     ensures { result ≡ small_digits x }
@@ -27,59 +30,6 @@ fn small_digits(x: u16) -> [u64; 3]
     let b = a / 3;
     let c = b / 3;
     [a - 3 * b, b - 3 * c, c]
-}
-
-// A digit times a row more, after n rows. A number of a row is nine digits, so that there is room for 60 rows.
-fn add_row(a: [u64; 4], n: usize, d: u64, r: [u64; 4]) -> [u64; 4]
-    requires { (n ≤ 59) × OfRows n a × (d ≤ 2) × IsRow r }
-    ensures same { result ≡ add_row a d r }
-    ensures bound { OfRows (n + 1) result }
-{
-    [
-        a[0] + d * r[0],
-        a[1] + d * r[1],
-        a[2] + d * r[2],
-        a[3] + d * r[3],
-    ]
-}
-
-// Three digits times their rows more, after n rows.
-fn add_three_rows(
-    a: [u64; 4],
-    n: usize,
-    d: [u64; 3],
-    q: [u64; 4],
-    r: [u64; 4],
-    s: [u64; 4],
-) -> [u64; 4]
-    requires counts { (n ≤ 57) × OfRows n a × (bounded 2 d ≡ true) }
-    requires rows { IsRow q × IsRow r × IsRow s }
-    ensures same { result ≡ add_three_rows a d q r s }
-    ensures bound { OfRows (n + 3) result }
-{
-    let b = add_row(a, n, d[0], q);
-    let c = add_row(b, n + 1, d[1], r);
-    add_row(c, n + 2, d[2], s)
-}
-
-// The six digits of symbol i of a card times their rows more, after those of the symbols before it.
-pub(crate) fn add_symbol(a: [u64; 4], c: &[u16; 6], i: usize, r: [[u64; 4]; 6]) -> [u64; 4]
-    requires { (i ≤ 5) × OfRows (6 * i) a × AreRows r }
-    ensures same { result ≡ add_rows a (digits (get_or c.now i 0)) r }
-    ensures bound { OfRows (6 * i + 6) result }
-{
-    let d = digits(c[i]);
-    let b = add_three_rows(a, 6 * i, [d[0], d[1], d[2]], r[0], r[1], r[2]);
-    add_three_rows(b, 6 * i + 3, [d[3], d[4], d[5]], r[3], r[4], r[5])
-}
-
-// The three digits of a small number times their rows more, after n rows.
-pub(crate) fn add_small_rows(a: [u64; 4], n: usize, x: u16, r: [[u64; 4]; 3]) -> [u64; 4]
-    requires { (n ≤ 57) × OfRows n a × (x < 27) × AreRows r }
-    ensures same { result ≡ add_small_rows a x r }
-    ensures bound { OfRows (n + 3) result }
-{
-    add_three_rows(a, n, small_digits(x), r[0], r[1], r[2])
 }
 
 // 3, 7 and 15 at each of nine counts.
@@ -101,6 +51,7 @@ fn remainders(v: u64) -> u64
 }
 
 // From each place on, the number of the three digits there.
+#[tactic(auto, unfolding(transform::specs::Remainders::halves, transform::specs::Remainders::halved))]
 fn halves(v: u64) -> u64
     ensures { result ≡ halves v }
 {
@@ -115,20 +66,103 @@ fn symbol(v: u64, w: u64) -> u16
     (v % 128 + 27 * (w % 128)) as u16
 }
 
-// The six symbols that the counts stand for.
-pub(crate) fn symbols_of(a: [u64; 4]) -> [u16; 6]
-    ensures { result ≡ symbols_of a }
+// What rows add up to, each times a digit: 36 counts, nine to a number. A number of a row is nine digits, so that there is room for 60 rows.
+#[derive(Clone, Copy)]
+pub(crate) struct Counts {
+    pub(crate) numbers: [u64; 4],
+    pub(crate) rows: usize,
+    ghost room: { rows ≤ 60 },
+    ghost of_rows: { OfRows rows numbers },
+}
+
+impl Counts {
+    pub(crate) fn none() -> Counts
+        ensures { (result.numbers ≡ no_counts) × (result.rows ≡ 0) }
+    {
+        Counts {
+            numbers: [0; 4],
+            rows: 0,
+        }
+    }
+
+    // A digit times a row more.
+    fn add_row(self, digit: u64, row: [u64; 4]) -> Counts
+        requires { (self.rows ≤ 59) × (digit ≤ 2) × IsRow row }
+        ensures numbers { result.numbers ≡ add_row self.numbers digit row }
+        ensures rows { result.rows ≡ self.rows + 1 }
+    {
+        Counts {
+            numbers: [
+                self.numbers[0] + digit * row[0],
+                self.numbers[1] + digit * row[1],
+                self.numbers[2] + digit * row[2],
+                self.numbers[3] + digit * row[3],
+            ],
+            rows: self.rows + 1,
+        }
+    }
+
+    // The six digits of a number times their rows more.
+    #[tactic(auto, using(transform::specs::Packed::row_bounded, algebra::specs::Digits::digit_below), unfolding(transform::specs::Packed::add_rows, transform::specs::Packed::add_three_rows))]
+    pub(crate) fn add_digits(self, x: u16, rows: [[u64; 4]; 6]) -> Counts
+        requires { (self.rows ≤ 54) × AreRows rows }
+        ensures numbers { result.numbers ≡ add_rows self.numbers (digits x) rows }
+        ensures rows { result.rows ≡ self.rows + 6 }
+    {
+        let d = digits(x);
+        self.add_row(d[0], rows[0])
+            .add_row(d[1], rows[1])
+            .add_row(d[2], rows[2])
+            .add_row(d[3], rows[3])
+            .add_row(d[4], rows[4])
+            .add_row(d[5], rows[5])
+    }
+
+    // The three digits of a small number times their rows more.
+    #[tactic(auto, using(transform::specs::Packed::row_bounded, transform::specs::Packed::bounded_at, transform::specs::Packed::small_digits_bounded), unfolding(transform::specs::Packed::add_small_rows, transform::specs::Packed::add_three_rows))]
+    pub(crate) fn add_small(self, x: u16, rows: [[u64; 4]; 3]) -> Counts
+        requires { (self.rows ≤ 57) × (x < 27) × AreRows rows }
+        ensures numbers { result.numbers ≡ add_small_rows self.numbers x rows }
+        ensures rows { result.rows ≡ self.rows + 3 }
+    {
+        let d = small_digits(x);
+        self.add_row(d[0], rows[0])
+            .add_row(d[1], rows[1])
+            .add_row(d[2], rows[2])
+    }
+
+    // The six symbols that the counts stand for.
+    pub(crate) fn symbols(self) -> [u16; 6]
+        ensures { result ≡ symbols_of self.numbers }
+    {
+        let p = halves(self.numbers[0]);
+        let q = halves(self.numbers[1]);
+        let r = halves(self.numbers[2]);
+        let s = halves(self.numbers[3]);
+        [
+            symbol(p, p / 2097152),
+            symbol(p / 4398046511104, q),
+            symbol(q / 2097152, q / 4398046511104),
+            symbol(r, r / 2097152),
+            symbol(r / 4398046511104, s),
+            symbol(s / 2097152, s / 4398046511104),
+        ]
+    }
+}
+
+// The six symbols that the digits of a card stand for, each times its row in the table of its symbol. Each call is compiled for its own tables,
+// without what is 0 in them.
+#[tactic(auto, using(transform::specs::Packed::table_bounded, transform::specs::Counts::added_next), unfolding(transform::specs::Counts::added))]
+#[inline(always)]
+pub(crate) fn linear(card: [u16; 6], tables: &[[[u64; 4]; 6]; 6]) -> [u16; 6]
+    requires { AreTables tables.now }
+    ensures { result ≡ symbols_of (added tables.now card 6) }
 {
-    let p = halves(a[0]);
-    let q = halves(a[1]);
-    let r = halves(a[2]);
-    let s = halves(a[3]);
-    [
-        symbol(p, p / 2097152),
-        symbol(p / 4398046511104, q),
-        symbol(q / 2097152, q / 4398046511104),
-        symbol(r, r / 2097152),
-        symbol(r / 4398046511104, s),
-        symbol(s / 2097152, s / 4398046511104),
-    ]
+    let mut counts = Counts::none();
+    for s in 0..6 {
+        // The borrow checker lays no call's result in an array that is written again.
+        let next = counts.add_digits(card[s], tables[s]);
+        counts = next;
+    }
+    counts.symbols()
 }

@@ -1,39 +1,21 @@
 // The test values of a card (document 01: Test): traces of its spectrum times constants, as small numbers, by packed digits.
-ghost use Rattle.std.specs.Prelude.{◌≡◌, ◌*◌, ◌-◌, ◌≤◌, length, drop};
-ghost use Rattle.algebra.specs.Lists.{table};
+ghost use Rattle.std.specs.Prelude.{◌≡◌, ◌*◌, ◌-◌, drop, IfOk};
+ghost use Rattle.refusal.specs.Replies.{outcome};
 ghost use Rattle.coding.specs.Code.{test_values};
 ghost use Rattle.coding.specs.Mu.{mu};
-ghost use Rattle.transform.specs.Slots.{slot};
-ghost use Rattle.codec.specs.Operations.{Tested};
+ghost use Rattle.codec.specs.Operations.{syndrome_refusal, Tested};
 
-use crate::slots::{slots_1, slots_2, slots_3, slots_4, slots_5};
-use crate::tests::syndrome_tests;
-use refusal::Outcome;
-
-// The slots of a card for k.
-fn slots(k: usize, c: [u16; 6]) -> [u16; 6]
-    requires { (1 ≤ k) × (k ≤ 5) }
-    ensures { result ≡ table 6 (slot k c) }
-{
-    if k == 1 {
-        slots_1(c)
-    } else if k == 2 {
-        slots_2(c)
-    } else if k == 3 {
-        slots_3(c)
-    } else if k == 4 {
-        slots_4(c)
-    } else {
-        slots_5(c)
-    }
-}
+use crate::dimension::Dimension;
+use crate::slots::slots;
+use crate::tests::{lengths_fit, test_input};
+use refusal::Refusal;
 
 // The test values for k stand from place 2k - 2 on, two to a slot.
-fn values_of(k: usize, c: [u16; 6]) -> [u16; 10]
-    requires { (1 ≤ k) × (k ≤ 5) }
-    ensures { drop (2 * k - 2) result ≡ test_values k (mu k) c }
+#[tactic(auto, using(transform::specs::Slots::places_are), unfolding(transform::specs::Slots::places))]
+fn values_of(k: Dimension, card: [u16; 6]) -> [u16; 10]
+    ensures { drop (2 * k.value - 2) result ≡ test_values k.value (mu k.value) card }
 {
-    let s = slots(k, c);
+    let s = slots(k, card);
     [
         s[4] % 27,
         s[4] / 27,
@@ -48,25 +30,28 @@ fn values_of(k: usize, c: [u16; 6]) -> [u16; 10]
     ]
 }
 
-// The same of a list that is a card.
-fn values_list(k: usize, card: &[u16]) -> [u16; 10]
-    requires { (1 ≤ k) × (k ≤ 5) × (length card.now ≡ 6) }
-    ensures { drop (2 * k - 2) result ≡ test_values k (mu k) card.now }
+// The k of the code, if the lists are a card and room for its test values.
+#[tactic(auto, unfolding(crate::specs::Operations::syndrome_refusal))]
+fn syndrome_tests(k: u32, card: &[u16], room: usize) -> Result<Dimension, Refusal>
+    ensures tested { outcome result ≡ syndrome_refusal k card.now room }
+    ensures dimension { IfOk result (λ d. d.value ≡ k) }
 {
-    let c = [card[0], card[1], card[2], card[3], card[4], card[5]];
-    values_of(k, c)
+    let fit = lengths_fit(
+        card.len(),
+        6,
+        room,
+        12_usize.saturating_sub(2 * (k as usize)),
+    );
+    test_input(k, fit, card, 728)
 }
 
 // Fills the test values of a card for k; they are all 0 exactly for words (document 01: Test).
-pub fn syndrome(k: u32, card: &[u16], values: &mut [u16]) -> Outcome
+#[tactic(auto, using(crate::specs::Refusals::syndrome_passed))]
+pub fn syndrome(k: u32, card: &[u16], values: &mut [u16]) -> Result<(), Refusal>
     ensures { Tested k card.now values.old result values.new }
 {
-    let tested = syndrome_tests(k, card, values.len());
-    if let Outcome::Refused(why) = tested {
-        return Outcome::Refused(why);
-    }
-    let v = values_list(k as usize, card);
-    let from = 2 * (k as usize) - 2;
-    lists::fill(values, &v[from..]);
-    Outcome::Done
+    let k = syndrome_tests(k, card, values.len())?;
+    let all = values_of(k, lists::six(card));
+    lists::fill(values, &all[2 * k.value - 2..]);
+    Ok(())
 }

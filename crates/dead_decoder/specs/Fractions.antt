@@ -16,7 +16,7 @@ use Rattle.coding.specs.DecodeOne.{zeroth}
 use Rattle.dead_lines.specs.Hidden.{less_top}
 use Rattle.dead_lines.specs.Solving.{solution}
 use Rattle.decoder.specs.Doubles.{value_at}
-use Rattle.dead_decoder.specs.declared.tries.Fraction.{Fraction}
+use Rattle.dead_decoder.specs.declared.fractions.Fraction.{Fraction}
 
 -- THE VALUE of a fraction in a try
 unfoldable pub fraction_at : (t : Fraction) → (symbol : ℕ) → ℕ

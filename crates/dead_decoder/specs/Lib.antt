@@ -3,10 +3,11 @@
 pub mod Lines
 -- A message checked against the lines that are left
 pub mod Checking
--- A card with dead lines, what is found for it, and what is tried
+-- What is found for a card with dead lines, and what is tried
 pub mod Finds
 pub mod Fractions
 pub mod Solutions
 pub mod Roots
+pub mod Tries
 -- What the operation answers
 pub mod Operation

@@ -1,13 +1,16 @@
 -- Rows and columns as the code has them, with their steps and the tables of their multipliers; and steps and the way back in arrays of six.
--- Main: step_of, multipliers, raised_any, step_six, table_six, steps_six, steps_both, Backed, backed_next, backs_six, backs_both.
-use Rattle.std.specs.Prelude.{◌≡◌, refl, Bool, cond, List, [], ◌∷◌, ℕ, zero, suc, ◌+◌, ◌*◌, ◌/◌, ◌%◌, ◌<◌, eqb, length, get_or, set}
+-- Main: step_of, multipliers, raised_any, step_six, table_six, Stepping, stepping_all, stepping_kept, stepping_next, stepping_end, steps_both,
+-- Backed, backed_next, Backing, backing_all, backing_kept, backing_next, backing_end, backs_both.
+use Rattle.std.specs.Prelude.{◌≡◌, refl, ◌≢◌, Bool, cond, List, [], ◌∷◌, ℕ, zero, suc, ◌+◌, ◌*◌, ◌/◌, ◌%◌, ◌≤◌, ◌<◌, eqb, length, get_or, set, drop}
 use Rattle.std.proofs.Math.Path.{sym, ap, ap₂}
-use Rattle.std.proofs.Common.{◌∙◌, add-one, arith, get_or-set_same, get_or-set_other}
+use Rattle.std.proofs.Common.{◌∙◌, add-one, drop-cons, arith, get_or-set_same, get_or-set_other}
 use Rattle.std.proofs.Math.Bool.{true, false}
 use Rattle.std.proofs.Math.Decide.{ℕ_discrete}
+use borrow.Author.Tests.{eq-eqb, ne_eqb}
 use Rattle.std.proofs.Math.ListN.{length-set}
+use Rattle.std.proofs.lemmas.List.{drop_all}
 use Rattle.algebra.specs.Field.{minus, times}
-use Rattle.algebra.specs.Lists.{table, table_same}
+use Rattle.algebra.specs.Lists.{table, table_same, length_table}
 use Rattle.algebra.specs.Inverses.{inverse}
 use Rattle.rank.specs.Definitions.{at}
 use Rattle.rank.specs.Arrays.{six}
@@ -63,17 +66,60 @@ module _ (line : ℕ → Step) (ws : List ℕ) (mask : ℕ) where
   six_same h x e =
       step_if_same 32 _ _ (step_if_same 16 _ _ (step_if_same 8 _ _ (step_if_same 4 _ _ (step_if_same 2 _ _ (step_if_same 1 h x e)))))
 
-  step_next : (low : ℕ) (q r : List ℕ) (h : ℕ → ℕ) → r ≡ table 6 h → q ≡ table 6 (step_if line ws mask low (at r))
-      → q ≡ table 6 (step_if line ws mask low h)
-  step_next low q r h e d = d ∙ table_same 6 _ _ (step_if_same low (at r) h (entry_is h r e))
+-- IN A LOOP over lines, whose bits are worth these
+turned : (lows : List ℕ) (n : ℕ) → n < length lows → drop n lows ≡ get_or lows n 0 ∷ drop (n + 1) lows
+turned lows n l = rw (add-one n) (drop-cons lows n 0 l)
 
-  -- one after the other, from an array to the next
-  pub steps_six : (h h0 h1 h2 h3 h4 h5 : List ℕ) → h0 ≡ table 6 (step_if line ws mask 1 (at h)) → h1 ≡ table 6 (step_if line ws mask 2 (at h0))
-      → h2 ≡ table 6 (step_if line ws mask 4 (at h1)) → h3 ≡ table 6 (step_if line ws mask 8 (at h2)) → h4 ≡ table 6 (step_if line ws mask 16 (at h3))
-      → h5 ≡ table 6 (step_if line ws mask 32 (at h4)) → h5 ≡ table 6 (six_steps line ws mask (at h))
-  unfolding six_steps
-  steps_six h h0 h1 h2 h3 h4 h5 e0 e1 e2 e3 e4 e5 =
-      step_next 32 h5 h4 _ (step_next 16 h4 h3 _ (step_next 8 h3 h2 _ (step_next 4 h2 h1 _ (step_next 2 h1 h0 _ e0 e1) e2) e3) e4) e5
+-- those that are left take the coefficients to where all steps take h
+unfoldable pub steps_by : (line : ℕ → Step) → (multipliers : List ℕ) → (mask : ℕ) → (lows : List ℕ) → (ℕ → ℕ) → ℕ → ℕ
+steps_by line ws mask [] h = h
+steps_by line ws mask (low ∷ lows) h = steps_by line ws mask lows (step_if line ws mask low h)
+
+pub record Stepping (line : ℕ → Step) (ws : List ℕ) (mask : ℕ) (h : ℕ → ℕ) (lows g : List ℕ) : Type 0 where
+  pub long : length g ≡ 6
+  pub left : Alike (steps_by line ws mask lows (at g)) (six_steps line ws mask h)
+
+module _ (line : ℕ → Step) (ws : List ℕ) (mask : ℕ) where
+  steps_by_same : (lows : List ℕ) (h x : ℕ → ℕ) → Alike h x → Alike (steps_by line ws mask lows h) (steps_by line ws mask lows x)
+  unfolding steps_by
+  steps_by_same [] h x e = e
+  steps_by_same (low ∷ lows) h x e = steps_by_same lows _ _ (step_if_same line ws mask low h x e)
+
+  pub stepping_all : (g : List ℕ) → length g ≡ 6 → Stepping line ws mask (at g) (1 ∷ 2 ∷ 4 ∷ 8 ∷ 16 ∷ 32 ∷ []) g
+  unfolding steps_by six_steps
+  stepping_all g l = record { long = l; left = λ i b. refl }
+
+  -- a line that is not dead, and one that is
+  step_kept : (low : ℕ) (h : ℕ → ℕ) → mask / low % 2 ≡ 0 → h ≡ step_if line ws mask low h
+  unfolding step_if
+  step_kept low h e = rw (eq-eqb _ 0 e)
+
+  step_taken : (low a : ℕ) (h : ℕ → ℕ) → mask / low % 2 ≢ 0 → a ≡ at ws (mask % (2 * low)) → line_step (line a) h ≡ step_if line ws mask low h
+  unfolding step_if
+  step_taken low a h d e = rw (e, ne_eqb _ 0 d)
+
+  module _ (h : ℕ → ℕ) (lows : List ℕ) (n : ℕ) (l : n < length lows) (g : List ℕ) (s : Stepping line ws mask h (drop n lows) g) where
+    stepping_turn : Alike (steps_by line ws mask (drop (n + 1) lows) (step_if line ws mask (get_or lows n 0) (at g))) (six_steps line ws mask h)
+    unfolding steps_by
+    stepping_turn = rw (turned lows n l) at s.left
+
+    pub stepping_kept : mask / get_or lows n 0 % 2 ≡ 0 → Stepping line ws mask h (drop (n + 1) lows) g
+    stepping_kept e = record {
+      long = s.long;
+      left = λ i b. ap (λ (f : ℕ → ℕ). steps_by line ws mask (drop (n + 1) lows) f i) (step_kept _ (at g) e) ∙ stepping_turn i b;
+    }
+
+    pub stepping_next : mask / get_or lows n 0 % 2 ≢ 0 → (a : ℕ) (x : List ℕ) → a ≡ at ws (mask % (2 * get_or lows n 0))
+        → x ≡ table 6 (line_step (line a) (at g)) → Stepping line ws mask h (drop (n + 1) lows) x
+    stepping_next d a x ea ex = record {
+      long = ap length ex ∙ length_table 6 _;
+      left = λ i b. steps_by_same (drop (n + 1) lows) _ _ (entry_is _ x ex) i b
+          ∙ ap (λ (f : ℕ → ℕ). steps_by line ws mask (drop (n + 1) lows) f i) (step_taken _ a (at g) d ea) ∙ stepping_turn i b;
+    }
+
+  pub stepping_end : (h : ℕ → ℕ) (lows : List ℕ) (n : ℕ) (g : List ℕ) → length lows ≤ n → Stepping line ws mask h (drop n lows) g → g ≡ table 6 (six_steps line ws mask h)
+  unfolding steps_by
+  stepping_end h lows n g l s = table_six g s.long ∙ table_same 6 _ _ (rw (drop_all n lows l) at s.left)
 
 -- rows, and then columns
 pub steps_both : (ρ σ : ℕ) (h g r : List ℕ) → g ≡ table 6 (six_steps Row row_multipliers ρ (at h))
@@ -137,16 +183,56 @@ module _ (line : ℕ → Step) (ws : List ℕ) (mask : ℕ) (k : ℕ) where
   six_backs_same f g e =
       back_if_same 1 _ _ (back_if_same 2 _ _ (back_if_same 4 _ _ (back_if_same 8 _ _ (back_if_same 16 _ _ (back_if_same 32 f g e)))))
 
-  back_next : (low : ℕ) (q r : List ℕ) (f : ℕ → ℕ) → Upto k (at r) f → Upto k (at q) (back_if line ws mask low (at r))
-      → Upto k (at q) (back_if line ws mask low f)
-  back_next low q r f e d i l = d i l ∙ back_if_same low (at r) f e i l
+-- IN A LOOP over lines, whose bits are worth these: those that are left take the coefficients back to where all take f
+unfoldable pub backs_by : (line : ℕ → Step) → (multipliers : List ℕ) → (mask : ℕ) → (lows : List ℕ) → (ℕ → ℕ) → ℕ → ℕ
+backs_by line ws mask [] f = f
+backs_by line ws mask (low ∷ lows) f = backs_by line ws mask lows (back_if line ws mask low f)
 
-  pub backs_six : (f f5 f4 f3 f2 f1 f0 : List ℕ) → Upto k (at f5) (back_if line ws mask 32 (at f)) → Upto k (at f4) (back_if line ws mask 16 (at f5))
-      → Upto k (at f3) (back_if line ws mask 8 (at f4)) → Upto k (at f2) (back_if line ws mask 4 (at f3)) → Upto k (at f1) (back_if line ws mask 2 (at f2))
-      → Upto k (at f0) (back_if line ws mask 1 (at f1)) → Upto k (at f0) (six_backs line ws mask (at f))
-  unfolding six_backs
-  backs_six f f5 f4 f3 f2 f1 f0 e5 e4 e3 e2 e1 e0 =
-      back_next 1 f0 f1 _ (back_next 2 f1 f2 _ (back_next 4 f2 f3 _ (back_next 8 f3 f4 _ (back_next 16 f4 f5 _ e5 e4) e3) e2) e1) e0
+pub record Backing (line : ℕ → Step) (ws : List ℕ) (mask k : ℕ) (f : ℕ → ℕ) (lows g : List ℕ) : Type 0 where
+  pub long : length g ≡ 6
+  pub left : Upto k (backs_by line ws mask lows (at g)) (six_backs line ws mask f)
+
+module _ (line : ℕ → Step) (ws : List ℕ) (mask k : ℕ) where
+  backs_by_same : (lows : List ℕ) (f g : ℕ → ℕ) → Upto k f g → Upto k (backs_by line ws mask lows f) (backs_by line ws mask lows g)
+  unfolding backs_by
+  backs_by_same [] f g e = e
+  backs_by_same (low ∷ lows) f g e = backs_by_same lows _ _ (back_if_same line ws mask k low f g e)
+
+  pub backing_all : (g : List ℕ) → length g ≡ 6 → Backing line ws mask k (at g) (32 ∷ 16 ∷ 8 ∷ 4 ∷ 2 ∷ 1 ∷ []) g
+  unfolding backs_by six_backs
+  backing_all g l = record { long = l; left = λ i b. refl }
+
+  -- a line that is not dead, and one that is
+  back_kept : (low : ℕ) (f : ℕ → ℕ) → mask / low % 2 ≡ 0 → f ≡ back_if line ws mask low f
+  unfolding back_if
+  back_kept low f e = rw (eq-eqb _ 0 e)
+
+  back_taken : (low a : ℕ) (f : ℕ → ℕ) → mask / low % 2 ≢ 0 → a ≡ at ws (mask % (2 * low)) → back (line a) f ≡ back_if line ws mask low f
+  unfolding back_if
+  back_taken low a f d e = rw (e, ne_eqb _ 0 d)
+
+  module _ (f : ℕ → ℕ) (lows : List ℕ) (n : ℕ) (l : n < length lows) (g : List ℕ) (s : Backing line ws mask k f (drop n lows) g) where
+    backing_turn : Upto k (backs_by line ws mask (drop (n + 1) lows) (back_if line ws mask (get_or lows n 0) (at g))) (six_backs line ws mask f)
+    unfolding backs_by
+    backing_turn = rw (turned lows n l) at s.left
+
+    pub backing_kept : mask / get_or lows n 0 % 2 ≡ 0 → Backing line ws mask k f (drop (n + 1) lows) g
+    backing_kept e = record {
+      long = s.long;
+      left = λ i b. ap (λ (x : ℕ → ℕ). backs_by line ws mask (drop (n + 1) lows) x i) (back_kept _ (at g) e) ∙ backing_turn i b;
+    }
+
+    pub backing_next : mask / get_or lows n 0 % 2 ≢ 0 → (a : ℕ) (x : List ℕ) → a ≡ at ws (mask % (2 * get_or lows n 0))
+        → length x ≡ 6 → Upto k (at x) (back (line a) (at g)) → Backing line ws mask k f (drop (n + 1) lows) x
+    backing_next d a x ea m ex = record {
+      long = m;
+      left = λ i b. backs_by_same (drop (n + 1) lows) _ _ ex i b
+          ∙ ap (λ (y : ℕ → ℕ). backs_by line ws mask (drop (n + 1) lows) y i) (back_taken _ a (at g) d ea) ∙ backing_turn i b;
+    }
+
+  pub backing_end : (f : ℕ → ℕ) (lows : List ℕ) (n : ℕ) (g : List ℕ) → length lows ≤ n → Backing line ws mask k f (drop n lows) g → Upto k (at g) (six_backs line ws mask f)
+  unfolding backs_by
+  backing_end f lows n g l s = rw (drop_all n lows l) at s.left
 
 -- columns, and then rows
 pub backs_both : (ρ σ k : ℕ) (f g r : List ℕ) → Upto k (at g) (six_backs Column column_multipliers σ (at f))

@@ -1,23 +1,23 @@
 -- Which tries can pass: where the message's first coefficient is small, the try's symbol is a root of a quadratic, so that at most two are left.
--- Main: square_root, square_roots, quadratic_at, Passes, passes_by, is_flat, Roots, roots_line, roots_square, Only, lower_some, lower_none, only_roots.
+-- Main: square_root, square_roots, quadratic_at, Passes, passes_by, is_flat, Roots, roots_line, roots_square, Only, lower_some, lower_none, only_roots, only_roots_sorted.
 use Rattle.std.specs.Prelude.{◌≡◌, refl, ◌⊎◌, ◌≢◌, Bool, true, false, ◌||◌, ◌&&◌, cond, List, eqb, get_or}
 use Rattle.std.proofs.Math.Path.{sym, ap}
 use Rattle.std.proofs.Common.{ap₂, ◌∙◌, inl, inr, true≢false, mod-eq_of_lt, mod-lt, arith, lit<, eqb-true, eq-eqb, ne_eqb}
+use Rattle.std.proofs.Math.Nat.{mod-mod}
 use Rattle.std.proofs.Math.Option.{Option, none, some}
-use Prim.Native.Nat.{ℕ, zero, suc, ◌/◌, ◌%◌, ◌≤◌, ◌<◌}
-use Rattle.std.proofs.Math.Decide.{ℕ_discrete}
-use Rattle.algebra.specs.Field.{add, minus, times, risen, small, gamma}
-use Rattle.algebra.specs.Lists.{at_table}
+use Prim.Native.Nat.{ℕ, zero, suc, ◌/◌, ◌%◌, ◌≤◌, ◌<◌, min, max}
+use Rattle.std.proofs.Math.Decide.{ℕ_discrete, dec_le}
+use Rattle.algebra.specs.Field.{add, minus, times, power, risen, small, gamma}
 use Rattle.algebra.specs.Tests.{every, every_at}
 use Rattle.algebra.specs.Sums.{Zero, add_rest}
 use Rattle.algebra.specs.Linear.{computing, at_zero, at_rest}
 use Rattle.algebra.specs.Products.{ring, products, orbit, risen_linear, risen_add, risen_times, times_rest, rest_times, zero_times, times_zero, times_whole}
 use Rattle.algebra.specs.Powers.{powers, place, log}
+use Rattle.algebra.proofs.Powers.{power_at, log_below}
 use Rattle.algebra.specs.Inverses.{inverse}
 use Rattle.algebra.proofs.Inverses.{divide}
 use Rattle.algebra.specs.SmallField.{low, high}
 use Rattle.algebra.proofs.SmallField.{small_linear, small_fixed, low_below, low_small, only_low}
-use Rattle.field.specs.Tables.{Tables}
 use Rattle.coding.specs.Options.{or_else, first_of}
 use Rattle.candidate.specs.Finding.{first_at}
 use Rattle.dead_lines.specs.Struck.{dead_lines}
@@ -25,7 +25,7 @@ use Rattle.dead_lines.specs.Steps.{unstepped}
 use Rattle.dead_lines.specs.Multipliers.{steps}
 use Rattle.dead_lines.specs.Solving.{attempt_dead}
 use Rattle.decoder.specs.Doubles.{value_at}
-use Rattle.dead_decoder.specs.declared.tries.Fraction.{Fraction}
+use Rattle.dead_decoder.specs.declared.fractions.Fraction.{Fraction}
 use Rattle.dead_decoder.specs.declared.roots.Quadratic.{Quadratic}
 use Rattle.dead_decoder.specs.Fractions.{fraction_at, FirstShown}
 use Rattle.dead_decoder.specs.Solutions.{attempt_dead_none}
@@ -62,9 +62,13 @@ pub root_none : (v : ℕ) → Zero v → 0 ≡ square_root v
 unfolding square_root
 root_none v z = rw (eq-eqb (v % 729) 0 z)
 
-pub root_read : {l p : List ℕ} → Tables l p → (v : ℕ) → ¬ Zero v → get_or p (get_or l (v % 729) 0 / 2) 0 ≡ square_root v
+log_rest : (v : ℕ) → log (v % 729) ≡ log v
+unfolding log
+log_rest v = ap (λ (x : ℕ). place x 0 powers) (mod-mod v 729)
+
+pub root_read : (v : ℕ) → ¬ Zero v → power 3 (log v / 2) ≡ square_root v
 unfolding square_root
-root_read t v n = rw (t.logs, t.powers, at_table 729 log (v % 729) (mod-lt v (lit< tt)), ne_eqb (v % 729) 0 n)
+root_read v n = rw (ne_eqb (v % 729) 0 n, log_rest v) (sym (power_at (log v / 2) (omega (arith, log_below v))))
 
 -- THE QUADRATIC at a symbol
 unfoldable pub quadratic_at : (q : Quadratic) → (u : ℕ) → ℕ
@@ -256,3 +260,10 @@ module _ (n k ρ σ : ℕ) (c : List ℕ) (h : ℕ → ℕ) (g : ℕ) (t : Fract
 
   pub only_roots_turned : Only (attempt_dead n k ρ σ c h) 27 y x
   only_roots_turned b i d e = only_roots b i e d
+
+  -- the lower one first
+  pub only_roots_sorted : Only (attempt_dead n k ρ σ c h) 27 (min x y) (max x y)
+  only_roots_sorted b i d e = elim (dec_le x y) [
+    | yes p ↦ only_roots b i (λ f. d (omega arith)) (λ f. e (omega arith))
+    | no p ↦ only_roots_turned b i (λ f. d (omega arith)) (λ f. e (omega arith))
+  ]

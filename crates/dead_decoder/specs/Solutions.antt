@@ -25,7 +25,7 @@ use Rattle.dead_lines.specs.DecodeDead.{if_near_dead}
 use Rattle.dead_lines.specs.Multipliers.{steps}
 use Rattle.dead_lines.specs.Hidden.{less_top}
 use Rattle.dead_lines.specs.Solving.{solution, last_term, tried, proposal, attempt_dead, lower_rank, solve}
-use Rattle.dead_decoder.specs.declared.tries.Fraction.{Fraction}
+use Rattle.dead_decoder.specs.declared.fractions.Fraction.{Fraction}
 use Rattle.dead_decoder.specs.Fractions.{fraction_at, FirstShown}
 
 -- THE COEFFICIENTS

@@ -2,7 +2,9 @@
 #![tactic(auto)]
 
 mod blank;
+mod card;
 mod decoding;
+mod fractions;
 mod masks;
 mod roots;
 mod solving;

@@ -1,17 +1,13 @@
 -- What decode answers and leaves in the lists lent to it (document 01: Mend), and how that follows from what was tested and found. A refusal
 -- leaves every list as it was.
--- Main: lengths_bad, decode_tests, decode_refusal, decoded_word, Decoded, decode_passed, decoded_refused, decoded_none, decoded_done.
-use Rattle.std.specs.Prelude.{◌≡◌, Bool, true, ◌&&◌, not, List, ℕ, ◌*◌, ◌≤◌, eqb, length}
-use Rattle.std.proofs.Common.{sym, ◌∙◌, eqb-true}
-use Rattle.std.proofs.Math.Path.{ap}
+-- Main: lengths_bad, decode_tests, decode_refusal, decoded_word, Decoded, decode_passed, decoded_refused, decoded_filled.
+use Rattle.std.specs.Prelude.{◌≡◌, Bool, true, ◌&&◌, not, List, ℕ, ◌*◌, ◌≤◌, eqb, length, Result, Err}
+use Rattle.std.specs.declared.option.Option as found
+use Rattle.std.proofs.Common.{eqb-true}
 use Rattle.algebra.specs.Tests.{any_above, both}
 use Rattle.refusal.specs.declared.Refusal.{Refusal}
-use Rattle.refusal.specs.declared.Outcome.{Outcome}
-use Rattle.refusal.specs.declared.Outcome.TheVariants as outcomes
-use Rattle.refusal.specs.Replies.{outcome, replied, reply_with, refused_reply, value_reply, unless}
+use Rattle.refusal.specs.Replies.{outcome, reply_with, refused_reply, unless}
 use Rattle.rank.specs.declared.Weight.{Weight}
-use Rattle.rank.specs.declared.Weighed.{Weighed}
-use Rattle.rank.specs.declared.Weighed.TheVariants as weighed
 use Rattle.rank.specs.Definitions.{is_card, difference}
 use Rattle.rank.specs.Weight.{weight_of, no_weight, weight_reply}
 use Rattle.coding.specs.Code.{word}
@@ -20,7 +16,7 @@ use Rattle.candidate.specs.declared.found.Found.{Found}
 use Rattle.codec.specs.Operations.{k_bad, tests}
 use Rattle.codec.specs.Refusals.{k_good, tests_passed, both_equal, fits}
 use Rattle.candidate.specs.Finding.{found_message, Consistent}
-use Rattle.decoder.specs.Filling.{or_empty, or_undecodable, Filled, tests_refused, filled_refusal, filled_word, filled_message, filled_weight}
+use Rattle.decoder.specs.Filling.{or_empty, or_undecodable, Filled, tests_refused, filled_word, filled_message, filled_weight}
 
 -- a card, or the room for its word or its message, has another length
 unfoldable pub lengths_bad : (k : ℕ) → (card : List ℕ) → (word_room message-room : ℕ) → Bool
@@ -41,7 +37,7 @@ decoded_word k c = word k (or_empty (decode k c))
 unfoldable pub damage : (k : ℕ) → (card : List ℕ) → Weight
 damage k c = weight_of (difference (decoded_word k c) c)
 
-pub record Decoded (k : ℕ) (c w m : List ℕ) (r : Weighed) (w-now m-now : List ℕ) : Type 0 where
+pub record Decoded (k : ℕ) (c w m : List ℕ) (r : Result Weight Refusal) (w-now m-now : List ℕ) : Type 0 where
   pub answers : weight_reply r ≡ reply_with no_weight (decode_refusal k c (length w) (length m)) (damage k c)
   pub word_is : w-now ≡ unless (decode_refusal k c (length w) (length m)) (decoded_word k c) w
   pub message_is : m-now ≡ unless (decode_refusal k c (length w) (length m)) (or_empty (decode k c)) m
@@ -58,28 +54,19 @@ decode_passed k c w m e =
     (f, g, p, fits (length c) 6 728 c p r, eqb-true w 6 s, eqb-true m (2 * k) t)
 
 -- THE ANSWER: refused by a test, or what was found
-pub decoded_refused : (k : ℕ) (c w m : List ℕ) (r : Outcome) (x : Refusal) → outcome r ≡ decode_tests k c (length w) (length m) → r ≡ outcomes.Refused x
-    → Decoded k c w m (weighed.Refused x) w m
+pub decoded_refused : {A : Type 0} (k : ℕ) (c w m : List ℕ) (r : Result A Refusal) (x : Refusal) → outcome r ≡ decode_tests k c (length w) (length m) → r ≡ Err x
+    → Decoded k c w m (Err x) w m
 unfolding decode_refusal decoded_word
 decoded_refused k c w m r x e q =
     let (s, v, u) = tests_refused k _ (decode k c) w m r x e q in
     record { answers = refused_reply _ _ _ x s; word_is = v; message_is = u }
 
-module _ (k : ℕ) (c w m : List ℕ) (z : decode_tests k c (length w) (length m) ≡ 0) (near : Found) (e : found_message k near ≡ decode k c) (M : Consistent k c near)
-    (l : length m ≡ 2 * k) (r : Outcome) (w-now m-now : List ℕ) (F : Filled near w m r w-now m-now) where
-  pub decoded_none : (x : Refusal) → r ≡ outcomes.Refused x → Decoded k c w m (weighed.Refused x) w-now m-now
-  unfolding decode_refusal decoded_word
-  decoded_none x q = record {
-    answers = refused_reply _ _ _ x (ap outcome (sym q) ∙ filled_refusal k _ _ w m z _ near e M l r w-now m-now F);
-    word_is = filled_word k _ _ w m z _ near e M l r w-now m-now F;
-    message_is = filled_message k _ _ w m z _ near e M l r w-now m-now F;
-  }
-
-  pub decoded_done : r ≡ outcomes.Done → Decoded k c w m (weighed.Weight near.weight) w-now m-now
-  unfolding decode_refusal decoded_word damage
-  decoded_done q = record {
-    answers = ap replied (filled_weight k _ _ w m z _ near e M l r w-now m-now F q)
-        ∙ value_reply _ _ _ (sym (filled_refusal k _ _ w m z _ near e M l r w-now m-now F) ∙ ap outcome q);
-    word_is = filled_word k _ _ w m z _ near e M l r w-now m-now F;
-    message_is = filled_message k _ _ w m z _ near e M l r w-now m-now F;
-  }
+pub decoded_filled : (k : ℕ) (c w m : List ℕ) → decode_tests k c (length w) (length m) ≡ 0 → length m ≡ 2 * k
+    → (near : found.Option Found) → found_message near ≡ decode k c → Consistent k c near
+    → (r : Result Weight Refusal) (w-now m-now : List ℕ) → Filled near w m r w-now m-now → Decoded k c w m r w-now m-now
+unfolding decode_refusal decoded_word damage
+decoded_filled k c w m z l near e M r w-now m-now F = record {
+  answers = filled_weight k _ _ w m z _ l r w-now m-now near e M F;
+  word_is = filled_word k _ _ w m z _ l r w-now m-now near e M F;
+  message_is = filled_message k _ _ w m z _ l r w-now m-now near e M F;
+}

@@ -11,5 +11,5 @@ mod window;
 pub use decoding::{decode, decode_card, decode_tests, fill_found};
 pub use one::solved_pair;
 pub use single::residual;
-pub use two::{Affine, value_at};
-pub use window::{Annihilator, annihilator_of, determinant, ninth_product, numerator, solved};
+pub use two::Affine;
+pub use window::{Annihilator, determinant, ninth_product, numerator};

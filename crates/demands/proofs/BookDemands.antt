@@ -2,8 +2,10 @@
 -- Main: open_says, pull_says, find_says, body_says, empty_says, strikes_say, read_is, read_says, length_says, worn_says, write_says,
 -- size_says.
 use Rattle.std.proofs.Math.Path.{◌≡◌, refl, sym, ap}
+use Rattle.refusal.specs.declared.Refusal.{Refusal}
+use Rattle.std.specs.Prelude as code
 use Rattle.std.proofs.Common.{◌∙◌, subst, true≢false}
-use Rattle.std.specs.Prelude.{◌⊎◌, Bool, true, false, ◌||◌, not, cond, List, eqb, length}
+use Rattle.std.specs.Prelude.{◌⊎◌, Bool, true, false, ◌||◌, not, cond, List, eqb, length, Result}
 use Rattle.std.proofs.Math.Logic.{inl, inr}
 use Rattle.std.proofs.Math.Option.{Option, none, some}
 use Prim.Native.Nat.{ℕ, zero, suc, ◌+◌, ◌≤◌}
@@ -11,8 +13,6 @@ use native.Mathlib.Omega.{arith}
 use borrow.Author.Tests.{le-ltb, eqb-true, eqb-false, not-true, not-false}
 use Rattle.algebra.specs.Tests.{any_above, neither}
 use Rattle.algebra.specs.Search.{first_from, NoneIn, search_first, search_none}
-use Rattle.refusal.specs.declared.Outcome.{Outcome}
-use Rattle.refusal.specs.declared.Answer.{Answer}
 use Rattle.refusal.specs.Replies.{Reply, outcome, replied, refused_with, reply, reply_with, unless}
 use Rattle.rank.specs.Definitions.{difference}
 use Rattle.rank.specs.Weight.{weight_of}
@@ -21,7 +21,6 @@ use Rattle.coding.specs.Decode.{decode}
 use Rattle.coding.specs.Proved.{decode_none}
 use Rattle.strike.specs.Strikes.{no_bell, strike_of, range_parts, parts_range, strike_good, strike_message_back, message_only, example_means}
 use Rattle.book.specs.declared.reading.Reading.{Reading}
-use Rattle.book.specs.declared.bodies.Worn.{Worn}
 use Rattle.book.specs.Layout.{big, tunes, part_of, body_good, symbols_from, card}
 use Rattle.book.specs.Open.{size_bad, numbers_bad, bodies_bad, contents_refusal, is_empty, open_refusal}
 use Rattle.book.specs.Pull.{entry_of, missing, part_at, pull_refusal, pulled}
@@ -43,7 +42,7 @@ use Rattle.demands.specs.Demands.{Damaged, WornCard, WornAs, WornSays}
 use Rattle.demands.specs.Demands.{writing_refusal, WriteSays, SizeSays}
 
 -- OPEN
-pub open_says : (bs : List ℕ) (r : Answer) → reply r ≡ reply_with 0 (open_refusal bs) (tunes bs) → OpenSays bs (reply r)
+pub open_says : (bs : List ℕ) (r : Result ℕ Refusal) → reply r ≡ reply_with 0 (open_refusal bs) (tunes bs) → OpenSays bs (reply r)
 unfolding OpenSays opening_refusal open_refusal is_empty contents_refusal size_bad numbers_bad bodies_bad
 open_says bs r e = e
 
@@ -80,7 +79,7 @@ module _ (bs : List ℕ) (t : ℕ) where
   unfolding PullSays opening_refusal open_refusal is_empty contents_refusal size_bad numbers_bad bodies_bad
   pull_says = pull_as _ refl
 
-pub find_says : (bs : List ℕ) (t : ℕ) (r : Outcome) → outcome r ≡ pull_refusal bs t → (part : List ℕ) × PullSays bs t (outcome r) part
+pub find_says : (bs : List ℕ) (t : ℕ) (r : Result Unit Refusal) → outcome r ≡ pull_refusal bs t → (part : List ℕ) × PullSays bs t (outcome r) part
 find_says bs t r e = (pulled bs t, rw e (pull_says bs t))
 
 pub body_says : (bs : List ℕ) (t : ℕ) (part : List ℕ) → part ≡ pulled bs t → (refusal : ℕ) × PullSays bs t refusal part
@@ -128,7 +127,7 @@ read_is bs n = go (body_good bs) refl (no_card bs n) refl (any_above 728 c) refl
         rw (e, f, q)
         (inl (m, (the_near 2 (omega arith) (omega arith) c (card_passes c refl q) m d, sym (read_there bs n e f) ∙ near m q d (no_bell (strike_of m)) refl)))
 
-pub read_says : (bs : List ℕ) (n : ℕ) (r : Reading) → read_reply r ≡ reading bs n → ReadSays bs n (read_reply r)
+pub read_says : (bs : List ℕ) (n : ℕ) (r : Result Reading Refusal) → read_reply r ≡ reading bs n → ReadSays bs n (read_reply r)
 read_says bs n r e = rw e (read_is bs n)
 
 -- LENGTH
@@ -172,7 +171,7 @@ module _ (bs : List ℕ) where
         ),
       )
 
-pub length_says : (bs : List ℕ) (r : Answer) → reply r ≡ total_delay bs → LengthSays bs (reply r)
+pub length_says : (bs : List ℕ) (r : Result ℕ Refusal) → reply r ≡ total_delay bs → LengthSays bs (reply r)
 unfolding LengthSays LengthAs
 length_says bs r e = rw e (go (body_good bs) refl)
   where
@@ -209,7 +208,7 @@ module _ (bs : List ℕ) where
         λ m h d. not_damaged m (f.before m d.0 h) d,
       )
 
-pub worn_says : (bs : List ℕ) (r : Worn) → worn_reply r ≡ reply_with none (body_refusal bs) (first_damaged bs) → WornSays bs (worn_reply r)
+pub worn_says : (bs : List ℕ) (r : Result (code.Option ℕ) Refusal) → worn_reply r ≡ reply_with none (body_refusal bs) (first_damaged bs) → WornSays bs (worn_reply r)
 unfolding WornSays WornAs body_refusal reply_with
 worn_says bs r e = rw e (go (body_good bs) refl)
   where
@@ -218,12 +217,12 @@ worn_says bs r e = rw e (go (body_good bs) refl)
     go false h = rw h
 
 -- WRITE
-pub write_says : {ns cs ss bs : List ℕ} {r : Outcome} {b : List ℕ} → Written ns cs ss bs r b → WriteSays ns cs ss (outcome r) bs b
+pub write_says : {ns cs ss bs : List ℕ} {r : Result Unit Refusal} {b : List ℕ} → Written ns cs ss bs r b → WriteSays ns cs ss (outcome r) bs b
 unfolding WriteSays writing_refusal write_refusal lengths_good book_length unless
 write_says {ns} {cs} {ss} {bs} w =
     (w.answers, w.book_is, λ z. let e = sym w.answers ∙ z in rw (w.book_is, e) (written_shows ns cs ss (length bs) e))
 
 -- SIZE
-pub size_says : (cs : List ℕ) (r : Answer) → reply r ≡ reply_with 0 (size_refusal cs) (book_length cs) → SizeSays cs (reply r)
+pub size_says : (cs : List ℕ) (r : Result ℕ Refusal) → reply r ≡ reply_with 0 (size_refusal cs) (book_length cs) → SizeSays cs (reply r)
 unfolding SizeSays size_refusal book_length
 size_says cs r e = e

@@ -1,6 +1,8 @@
 -- What is demanded of levels on the cable, from the contracts of the operations, proved.
 -- Main: cable_says, signed_says, symbol_says, levels_says, symbols_says, receive_says, mends_sent.
-use Rattle.std.specs.Prelude.{◌≡◌, Bool, true, length, ℤ, pos}
+use Rattle.std.specs.Prelude.{◌≡◌, Bool, true, length, ℤ, pos, Result}
+use Rattle.refusal.specs.declared.Refusal.{Refusal}
+use Rattle.rank.specs.declared.Weight.{Weight}
 use Rattle.std.proofs.Math.Path.{refl, sym, subst}
 use Rattle.std.proofs.Common.{◌∙◌, arith}
 use Rattle.std.proofs.Math.Bool.{false}
@@ -8,9 +10,7 @@ use mathlib.Core.List.{List, map}
 use Prim.Native.Nat.{ℕ, zero, suc}
 use borrow.Author.Tests.{eq-eqb, ne_eqb}
 use Rattle.algebra.specs.Tests.{any}
-use Rattle.refusal.specs.declared.Answer.{Answer}
 use Rattle.refusal.specs.Replies.{reply, reply_with, unless, unless_done, Gives}
-use Rattle.rank.specs.declared.Weighed.{Weighed}
 use Rattle.rank.specs.Weight.{weight_reply}
 use Rattle.levels.specs.Levels.{signed_of, outside, symbol_of, received}
 use Rattle.levels.specs.Balanced.{examples, symbol_signed, signed_symbol, symbol_range, signed_negative, levels_inside, symbols_back, symbols_card}
@@ -18,7 +18,6 @@ use Rattle.levels.specs.Received.{received_is_card, received_sent, received_card
 use Rattle.codec.specs.Operations.{tests}
 use Rattle.codec.specs.Refusals.{lists_passed}
 use Rattle.decoder.specs.Decoding.{Decoded}
-use Rattle.cable.specs.declared.SignedAnswer.{SignedAnswer}
 use Rattle.cable.specs.Operations.{signed_reply, signed_refusal, symbol_refusal, levels_refusal, symbols_refusal, receive_refusal}
 use Rattle.demands.specs.Demands.{CableSays, SignedSays, SymbolAs, SymbolSays, six_refusal, LevelsSays, SymbolsAs, SymbolsSays}
 use Rattle.demands.specs.Demands.{ReceiveAs, ReceiveSays, MendSays, MendsSent}
@@ -35,11 +34,11 @@ cable_says = record {
 }
 
 -- ONE SYMBOL, ONE NUMBER
-pub signed_says : (v : ℕ) (r : SignedAnswer) → signed_reply r ≡ reply_with (pos 0) (signed_refusal v) (signed_of v) → SignedSays v (signed_reply r)
+pub signed_says : (v : ℕ) (r : Result ℤ Refusal) → signed_reply r ≡ reply_with (pos 0) (signed_refusal v) (signed_of v) → SignedSays v (signed_reply r)
 unfolding SignedSays signed_refusal
 signed_says v r e = e
 
-pub symbol_says : (n : ℤ) (r : Answer) → reply r ≡ reply_with 0 (symbol_refusal n) (symbol_of n) → SymbolSays n (reply r)
+pub symbol_says : (n : ℤ) (r : Result ℕ Refusal) → reply r ≡ reply_with 0 (symbol_refusal n) (symbol_of n) → SymbolSays n (reply r)
 unfolding SymbolSays SymbolAs symbol_refusal reply_with
 symbol_says n r e = go (outside n) refl
   where
@@ -79,7 +78,7 @@ module _ (s : List ℤ) (c : List ℕ) (r : ℕ) (e : List ℕ) (d : Gives (rece
   receive_says = receive_as _ refl
 
 -- MEND FROM THE CABLE: what was received is the card that was sent
-module _ (k : ℕ) (s : List ℤ) (c w m : List ℕ) (x : ℕ) (e : List ℕ) (r : Weighed) (v n : List ℕ)
+module _ (k : ℕ) (s : List ℤ) (c w m : List ℕ) (x : ℕ) (e : List ℕ) (r : Result Weight Refusal) (v n : List ℕ)
     (g : Gives (receive_refusal s (length c)) (received s) c x e) (d : Decoded k e w m r v n) where
   pub mends_sent : MendsSent k s (length c) (weight_reply r) w v m n
   unfolding MendsSent receive_refusal tests

@@ -1,6 +1,7 @@
 -- What is demanded of the code, and of Press, Weigh, Test and Mend, also with dead lines, from their contracts, proved.
 -- Main: near_alike, code_says, press_says, weigh_says, test_says, the_near, mend_says, mend_dead_says, mends_alike.
-use Rattle.std.specs.Prelude.{◌≡◌, Bool, true, false, cond, List, ltb, eqb, length}
+use Rattle.std.specs.Prelude.{◌≡◌, Bool, true, false, cond, List, ltb, eqb, length, Result}
+use Rattle.refusal.specs.declared.Refusal.{Refusal}
 use Rattle.std.proofs.Math.Path.{refl, ap}
 use Rattle.std.proofs.Common.{sym, ◌∙◌, arith}
 use Rattle.std.proofs.Math.Logic.{inl, inr}
@@ -10,11 +11,8 @@ use Prim.Native.Nat.{ℕ, zero, suc, ◌+◌, ◌-◌, ◌≤◌}
 use borrow.Author.Tests.{ne_eqb, le-ltb}
 use Rattle.algebra.specs.Tests.{any_above}
 use Rattle.algebra.proofs.SmallField.{small_field}
-use Rattle.refusal.specs.declared.Outcome.{Outcome}
-use Rattle.refusal.specs.declared.Answer.{Answer}
 use Rattle.refusal.specs.Replies.{outcome, Reply, replied, reply, reply_with, unless}
 use Rattle.rank.specs.declared.Weight.{Weight}
-use Rattle.rank.specs.declared.Weighed.{Weighed}
 use Rattle.rank.specs.Definitions.{is_card, apart}
 use Rattle.rank.specs.Distance.{rank_even}
 use Rattle.rank.specs.Echelon.{rank_at_most}
@@ -59,12 +57,12 @@ code_says = record {
 }
 
 -- PRESS
-pub press_says : {k : ℕ} {m w : List ℕ} {r : Outcome} {v : List ℕ} → Encoded k m w r v → PressSays k m (outcome r) w v
+pub press_says : {k : ℕ} {m w : List ℕ} {r : Result Unit Refusal} {v : List ℕ} → Encoded k m w r v → PressSays k m (outcome r) w v
 unfolding PressSays press_refusal encode_refusal tests unless
 press_says e = (e.answers, e.word_is)
 
 -- WEIGH
-pub weigh_says : (c : List ℕ) (r : Weighed) → weight_reply r ≡ reply_with no_weight (weight_refusal c) (weight_of c) → WeighSays c (weight_reply r)
+pub weigh_says : (c : List ℕ) (r : Result Weight Refusal) → weight_reply r ≡ reply_with no_weight (weight_refusal c) (weight_of c) → WeighSays c (weight_reply r)
 unfolding WeighSays weigh_refusal weight_refusal weight_of reply_with
 weigh_says c r e = (e, rw e (within (eqb (weight_refusal c) 0)))
   where
@@ -73,7 +71,7 @@ weigh_says c r e = (e, rw e (within (eqb (weight_refusal c) 0)))
     within false = omega arith
 
 -- TEST
-module _ {k : ℕ} {c t : List ℕ} {r : Outcome} {z : List ℕ} (d : Tested k c t r z) where
+module _ {k : ℕ} {c t : List ℕ} {r : Result Unit Refusal} {z : List ℕ} (d : Tested k c t r z) where
   test_as : (n : ℕ) → syndrome_refusal k c (length t) ≡ n → TestAs n k c (outcome r) t z
   unfolding TestAs unless
   test_as zero e =
@@ -92,7 +90,7 @@ the_near k low high c card m e =
     let near = (decoded k low high c card m).0 e in
     (near, λ p h. (one_near k c p m low high card h near).0)
 
-module _ {k : ℕ} {c w m : List ℕ} {r : Weighed} {v n : List ℕ} (d : Decoded k c w m r v n) where
+module _ {k : ℕ} {c w m : List ℕ} {r : Result Weight Refusal} {v n : List ℕ} (d : Decoded k c w m r v n) where
   passed : (o : Option (List ℕ)) → decode k c ≡ o → decode_tests k c (length w) (length m) ≡ 0 → MendAs 0 k c (weight_reply r) w v m n
   unfolding MendAs Mended Hopeless decode_refusal or_undecodable reply_with unless undecodable or_empty decoded_word damage
   passed none q e = rw (d.answers, d.word_is, d.message_is, e, q) (inr ((decode_none k c).0 q, refl, refl, refl))
@@ -126,7 +124,7 @@ lines_last false true r s = refl
 lines_last false false true s = refl
 lines_last false false false s = refl
 
-module _ {k : ℕ} {c : List ℕ} {ρ σ : ℕ} {w m : List ℕ} {r : Answer} {v n : List ℕ} (d : DeadDecoded k c ρ σ w m r v n) where
+module _ {k : ℕ} {c : List ℕ} {ρ σ : ℕ} {w m : List ℕ} {r : Result ℕ Refusal} {v n : List ℕ} (d : DeadDecoded k c ρ σ w m r v n) where
   dead_passes : (o : Option (List ℕ)) → decode_dead k ρ σ c ≡ o → dead_tests k c ρ σ (length w) (length m) ≡ 0 → MendDeadAs 0 k c ρ σ (reply r) w v m n
   unfolding MendDeadAs MendedDead HopelessDead dead_refusal or_undecodable reply_with unless undecodable or_empty dead_word
   dead_passes none q e = rw (d.answers, d.word_is, d.message_is, e, q) (inr ((decode_dead_none k ρ σ c).0 q, refl, refl, refl))
@@ -162,7 +160,7 @@ module _ (k : ℕ) (c w m : List ℕ) (s : Reply Weight) (u o : List ℕ) where
   mend_alike zero (inr (far, e, f, h)) = inr (λ p d. far p ((near_alike k c p).0 d), e, f, ap in_number h)
   mend_alike (suc x) (e, f, h) = (e, f, ap in_number h)
 
-pub mends_alike : {k : ℕ} {c w m : List ℕ} {r : Answer} {v n : List ℕ} → DeadDecoded k c 0 0 w m r v n → MendsAlike k c (reply r) w v m n
+pub mends_alike : {k : ℕ} {c w m : List ℕ} {r : Result ℕ Refusal} {v n : List ℕ} → DeadDecoded k c 0 0 w m r v n → MendsAlike k c (reply r) w v m n
 unfolding MendsAlike MendSays MendDeadSays
 mends_alike {k} {c} {w} {m} {r} {v} {n} d s u o h =
     let dead = rw (none_dead k c (length w) (length m)) at (mend_dead_says d) in

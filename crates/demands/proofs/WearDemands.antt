@@ -1,6 +1,8 @@
 -- What is demanded of wear, proved from the operation's contract.
 -- Main: wear_says.
-use Rattle.std.specs.Prelude.{◌≡◌, ◌⊎◌, Bool, true, false, List}
+use Rattle.std.specs.Prelude.{◌≡◌, ◌⊎◌, Bool, true, false, List, Result}
+use Rattle.refusal.specs.declared.Refusal.{Refusal}
+use Rattle.wear.specs.declared.runs.Run.{Run}
 use Rattle.std.proofs.Math.Path.{refl, ap}
 use Rattle.std.proofs.Common.{sym, ◌∙◌, eq-eqb, ne_eqb}
 use Rattle.std.proofs.Math.Logic.{inl, inr}
@@ -10,7 +12,6 @@ use native.Mathlib.Omega.{arith}
 use Rattle.refusal.specs.Replies.{Reply, reply_with}
 use Rattle.book.specs.Layout.{body_good}
 use Rattle.book.specs.Reading.{CardValue, cards_in, reading}
-use Rattle.wear.specs.declared.runs.Wear.{Wear}
 use Rattle.wear.specs.Wear.{reading_wear, card_wear, run_sum, worst_run, width_bad, wear_refusal, no_run, wear_reply}
 use Rattle.wear.specs.Worst.{fits, worst_is}
 use Rattle.demands.specs.Demands.{Wears, RunWears, none_wear, one_wears, RunAt, WorstRun, wearing_refusal, WearAs, WearSays}
@@ -61,7 +62,7 @@ module _ (bs : List ℕ) where
         λ m t l r. omega (arith, run_only r.2, g.before m r.0 l),
       )
 
-pub wear_says : (bs : List ℕ) (w : ℕ) (r : Wear) → wear_reply r ≡ reply_with no_run (wear_refusal bs w) (worst_run bs w) → WearSays bs w (wear_reply r)
+pub wear_says : (bs : List ℕ) (w : ℕ) (r : Result Run Refusal) → wear_reply r ≡ reply_with no_run (wear_refusal bs w) (worst_run bs w) → WearSays bs w (wear_reply r)
 unfolding WearSays WearAs wearing_refusal wear_refusal width_bad reply_with
 wear_says bs w r e = rw e (go (body_good bs) refl (width_bad bs w) refl)
   where

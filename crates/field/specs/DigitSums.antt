@@ -1,7 +1,7 @@
 -- Sums by six numbers whose remainders by 3 are the digits, so that remainders are taken of sums only.
--- Main: sum_is, difference_is, place_sum, place_six, terms_small, combined.
+-- Main: multiple_is, sum_is, difference_is, place_sum, place_six, terms_small, combined.
 use Rattle.std.specs.Prelude.{◌≡◌, refl, ℕ, ◌+◌, ◌*◌, ◌/◌, ◌%◌, ◌≤◌, length, get_or}
-use Rattle.std.proofs.Common.{sym, ap₂, ◌∙◌, add-zero, add_assoc, one-mul, mul-le-mul_right, div-one, arith}
+use Rattle.std.proofs.Common.{sym, ap₂, ◌∙◌, add-zero, add_assoc, mul-le-mul_right, div-one, arith}
 use Rattle.std.proofs.Math.Path.{ap}
 use mathlib.Core.List.{List, [], ◌∷◌}
 use Rattle.std.proofs.Math.Nat.{mod-mod, div-div-eq-div-mul}
@@ -78,17 +78,18 @@ plus : (m a b : ℕ) → number_of (raised (quotients a) m b) ≡ add a (scale m
 unfolding quotients
 plus m a b = raised_is (quotients a) refl m b ∙ rw (number_quotients a) (simp (sums, rest_add))
 
-pub sum_is : (a b : ℕ)
-    → (a + b) % 3 + 3 * ((a / 3 + b / 3) % 3) + 9 * ((a / 9 + b / 9) % 3) + 27 * ((a / 27 + b / 27) % 3) + 81 * ((a / 81 + b / 81) % 3)
-    + 243 * ((a / 243 + b / 243) % 3) ≡ add a b
+pub multiple_is : (m a b : ℕ)
+    → (a + m * b) % 3 + 3 * ((a / 3 + m * (b / 3)) % 3) + 9 * ((a / 9 + m * (b / 9)) % 3) + 27 * ((a / 27 + m * (b / 27)) % 3)
+    + 81 * ((a / 81 + m * (b / 81)) % 3) + 243 * ((a / 243 + m * (b / 243)) % 3) ≡ add a (scale m b)
 unfolding quotients
-sum_is a b = settled _ _ _ _ _ _ ∙ simp one-mul at (plus 1 a b) ∙ simp sums
+multiple_is m a b = settled _ _ _ _ _ _ ∙ plus m a b
 
-pub difference_is : (a b : ℕ)
-    → (a + 2 * b) % 3 + 3 * ((a / 3 + 2 * (b / 3)) % 3) + 9 * ((a / 9 + 2 * (b / 9)) % 3) + 27 * ((a / 27 + 2 * (b / 27)) % 3)
-    + 81 * ((a / 81 + 2 * (b / 81)) % 3) + 243 * ((a / 243 + 2 * (b / 243)) % 3) ≡ minus a b
-unfolding minus quotients
-difference_is a b = settled _ _ _ _ _ _ ∙ plus 2 a b
+pub sum_is : (a b : ℕ) → add a (scale 1 b) ≡ add a b
+sum_is a b = simp sums
+
+pub difference_is : (a b : ℕ) → add a (scale 2 b) ≡ minus a b
+unfolding minus
+difference_is a b = refl
 
 -- COMBINATIONS: what some symbols have at a place 1, 3, 9, .., each times a quotient of the number. Modulo 3 it is a digit.
 unfoldable pub place_sum : (place v : ℕ) → List ℕ → ℕ

@@ -1,37 +1,37 @@
 // Sums of symbols, digit by digit, and combinations with digits as coefficients. The digit of a at 3^i is the remainder of a / 3^i by 3, and
 // remainders are taken of sums only. The six digits are written out, since a loop would cost more than the sum.
 ghost use Rattle.std.specs.Prelude.{◌≡◌, ◌≤◌};
-ghost use Rattle.algebra.specs.Field.{add, minus};
+ghost use Rattle.algebra.specs.Field.{add, scale, minus};
 ghost use Rattle.algebra.specs.Linear.{combination};
 ghost use Rattle.field.specs.DigitSums.{place_sum};
+
+// A symbol and a multiple of another.
+fn with_multiple<const M: u32>(a: u16, b: u16) -> u16
+    requires { M ≤ 2 }
+    ensures { result ≡ add a (scale M b) }
+{
+    let x = a as u32;
+    let y = b as u32;
+    let r = (x + M * y) % 3
+        + 3 * ((x / 3 + M * (y / 3)) % 3)
+        + 9 * ((x / 9 + M * (y / 9)) % 3)
+        + 27 * ((x / 27 + M * (y / 27)) % 3)
+        + 81 * ((x / 81 + M * (y / 81)) % 3)
+        + 243 * ((x / 243 + M * (y / 243)) % 3);
+    r as u16
+}
 
 pub fn sum(a: u16, b: u16) -> u16
     ensures { result ≡ add a b }
 {
-    let x = a as u32;
-    let y = b as u32;
-    let r = (x + y) % 3
-        + 3 * ((x / 3 + y / 3) % 3)
-        + 9 * ((x / 9 + y / 9) % 3)
-        + 27 * ((x / 27 + y / 27) % 3)
-        + 81 * ((x / 81 + y / 81) % 3)
-        + 243 * ((x / 243 + y / 243) % 3);
-    r as u16
+    with_multiple::<1>(a, b)
 }
 
 // A digit less is twice the digit more.
 pub fn difference(a: u16, b: u16) -> u16
     ensures { result ≡ minus a b }
 {
-    let x = a as u32;
-    let y = b as u32;
-    let r = (x + 2 * y) % 3
-        + 3 * ((x / 3 + 2 * (y / 3)) % 3)
-        + 9 * ((x / 9 + 2 * (y / 9)) % 3)
-        + 27 * ((x / 27 + 2 * (y / 27)) % 3)
-        + 81 * ((x / 81 + 2 * (y / 81)) % 3)
-        + 243 * ((x / 243 + 2 * (y / 243)) % 3);
-    r as u16
+    with_multiple::<2>(a, b)
 }
 
 // What six symbols have at a place 1, 3, 9, .. or 243, each times its quotient of x: modulo 3 it is a digit of their combination.

@@ -2,7 +2,7 @@
 // products.rt.
 
 // z^n at place n, z being symbol 3.
-pub const POWERS: [u16; 728] = [
+pub static POWERS: [u16; 728] = [
     1, // z^0
     3, 9, 27, 81, 243, 103, 309, 31, 93, 279, 211, 633, 377, 469, 538, // z^15
     56, 168, 504, 233, 699, 548, 86, 258, 121, 363, 436, 655, 650, // z^28
@@ -46,7 +46,7 @@ pub const POWERS: [u16; 728] = [
 ];
 
 // The logarithm of each symbol to the base z at its place.
-pub const LOGS: [u16; 729] = [
+pub static LOGS: [u16; 729] = [
     0, // 0 has no logarithm
     0, 364, 1, // of 3
     612, 585, 365, 221, 248, 2, 669, 469, 613, 442, 151, 586, 496, 109, 366, 105, 305, 222, 473,

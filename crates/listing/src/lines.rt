@@ -1,69 +1,71 @@
-// The lines of a listing, each written from a place on. Each function answers the next place.
-ghost use Rattle.std.specs.Prelude.{◌+◌, ◌≤◌, length};
-ghost use Rattle.refusal.specs.Replies.{reply};
+// The lines of a listing. They are functions and not methods of `Lent`, which is a type of another crate.
+ghost use Rattle.refusal.specs.Replies.{reply, number};
 ghost use Rattle.book.specs.Reading.{read_reply};
+ghost use Rattle.text.specs.Writing.{HasRoom, Writes};
 ghost use Rattle.listing.specs.Listing.{strike_line, refused_line, card_line, tune_line, ticks_line};
-ghost use Rattle.text.specs.Writing.{Wrote};
 
-use book::Reading;
-use rank::Weight;
-use refusal::Answer;
-use strike::Strike;
-use text::{write_byte, write_decimal, write_spaced, write_word};
+use book::{Reading, Tune};
+use refusal::Refusal;
+use text::Lent;
 
 // The line of a card that was read: card, bell, force, delay, rank of damage.
-fn write_strike(text: &mut [u8], at: usize, n: u32, s: Strike, damage: Weight) -> usize
-    requires { at + length (strike_line n s damage) ≤ length text.old }
-    ensures { Wrote text.old at (strike_line n s damage) text.new result }
+#[tactic(auto, using(text::proofs::WritingLaws::writing), unfolding(crate::specs::Listing::strike_line))]
+fn push_reading(text: &mut Lent<'_, u8>, n: u32, read: Reading)
+    requires { HasRoom text.old (strike_line n read.strike read.damage) }
+    ensures { Writes text.old (strike_line n read.strike read.damage) text.new }
 {
-    let number_end = write_decimal(text, at, n);
-    let bell_end = write_spaced(text, number_end, s.bell);
-    let force_end = write_spaced(text, bell_end, s.force);
-    let delay_end = write_spaced(text, force_end, s.delay);
-    let damage_end = write_spaced(text, delay_end, damage.rank);
-    write_byte(text, damage_end, b'\n')
+    text.push_decimal(n);
+    text.push_spaced(read.strike.bell);
+    text.push_spaced(read.strike.force);
+    text.push_spaced(read.strike.delay);
+    text.push_spaced(read.damage.rank);
+    text.push(b'\n');
 }
 
 // The line of a card that was refused: card and refusal.
-fn write_refused_card(text: &mut [u8], at: usize, n: u32, refusal: u32) -> usize
-    requires { at + length (refused_line n refusal) ≤ length text.old }
-    ensures { Wrote text.old at (refused_line n refusal) text.new result }
+#[tactic(auto, using(text::proofs::WritingLaws::writing), unfolding(crate::specs::Listing::refused_line))]
+fn push_refused(text: &mut Lent<'_, u8>, n: u32, why: Refusal)
+    requires { HasRoom text.old (refused_line n (number why)) }
+    ensures { Writes text.old (refused_line n (number why)) text.new }
 {
-    let number_end = write_decimal(text, at, n);
-    let word_end = write_word(text, number_end, b" refused");
-    let refusal_end = write_spaced(text, word_end, refusal);
-    write_byte(text, refusal_end, b'\n')
+    text.push_decimal(n);
+    text.extend_from_slice(b" refused");
+    text.push_spaced(why.into());
+    text.push(b'\n');
 }
 
 // The line of a card.
-pub(crate) fn write_card(text: &mut [u8], at: usize, n: u32, read: Reading) -> usize
-    requires { at + length (card_line n (read_reply read)) ≤ length text.old }
-    ensures { Wrote text.old at (card_line n (read_reply read)) text.new result }
+#[tactic(auto, using(crate::specs::Lines::line_strike, crate::specs::Lines::line_refused))]
+pub(crate) fn push_card(text: &mut Lent<'_, u8>, n: u32, read: Result<Reading, Refusal>)
+    requires { HasRoom text.old (card_line n (read_reply read)) }
+    ensures { Writes text.old (card_line n (read_reply read)) text.new }
 {
     match read {
-        Reading::Strike(s, damage) => write_strike(text, at, n, s, damage),
-        Reading::Refused(why) => write_refused_card(text, at, n, refusal::number(why)),
+        Ok(card) => push_reading(text, n, card),
+        Err(why) => push_refused(text, n, why),
     }
 }
 
 // The first line of a tune: tune number, cards.
-pub(crate) fn write_tune_line(text: &mut [u8], at: usize, number: u32, cards: u32) -> usize
-    requires { at + length (tune_line number cards) ≤ length text.old }
-    ensures { Wrote text.old at (tune_line number cards) text.new result }
+#[tactic(auto, using(text::proofs::WritingLaws::writing), unfolding(crate::specs::Listing::tune_line))]
+pub(crate) fn push_tune(text: &mut Lent<'_, u8>, tune: Tune)
+    requires { HasRoom text.old (tune_line tune.number tune.cards) }
+    ensures { Writes text.old (tune_line tune.number tune.cards) text.new }
 {
-    let word_end = write_word(text, at, b"tune");
-    let number_end = write_spaced(text, word_end, number);
-    let cards_end = write_spaced(text, number_end, cards);
-    write_byte(text, cards_end, b'\n')
+    text.extend_from_slice(b"tune");
+    text.push_spaced(tune.number);
+    text.push_spaced(tune.cards);
+    text.push(b'\n');
 }
 
 // The last line of a tune: the sum of its delays, which is unknown if a card was refused.
-pub(crate) fn write_ticks(text: &mut [u8], at: usize, ticks: Answer) -> usize
-    requires { at + length (ticks_line (reply ticks)) ≤ length text.old }
-    ensures { Wrote text.old at (ticks_line (reply ticks)) text.new result }
+#[tactic(auto, using(crate::specs::Lines::ticks_value, crate::specs::Lines::ticks_refused))]
+pub(crate) fn push_ticks(text: &mut Lent<'_, u8>, ticks: Result<u32, Refusal>)
+    requires { HasRoom text.old (ticks_line (reply ticks)) }
+    ensures { Writes text.old (ticks_line (reply ticks)) text.new }
 {
     match ticks {
-        Answer::Value(sum) => text::write_word_line(text, at, b"ticks", sum),
-        Answer::Refused(_) => write_word(text, at, b"ticks unknown\n"),
+        Ok(sum) => text.push_word_line(b"ticks", sum),
+        Err(_) => text.extend_from_slice(b"ticks unknown\n"),
     }
 }

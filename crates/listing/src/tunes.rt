@@ -1,64 +1,45 @@
 // The text of a tune in a listing. Each card is decoded once.
-ghost use Rattle.std.specs.Prelude.{◌≡◌, true, ◌+◌, ◌≤◌, length};
+ghost use Rattle.std.specs.Prelude.{◌≡◌};
 ghost use Rattle.refusal.specs.Replies.{reply};
-ghost use Rattle.book.specs.Layout.{body_good};
 ghost use Rattle.book.specs.Reading.{cards_in};
 ghost use Rattle.book.specs.Bodies.{total_delay};
-ghost use Rattle.book.specs.Accepted.{AcceptedEntry};
-ghost use Rattle.text.specs.Writing.{Wrote};
+ghost use Rattle.text.specs.Writing.{HasRoom, Writes};
 ghost use Rattle.listing.specs.Listing.{card_lines, body_text, tune_text};
 
-use crate::lines::{write_card, write_ticks, write_tune_line};
-use refusal::Answer;
+use crate::lines::{push_card, push_ticks, push_tune};
+use book::{Body, Entry};
+use refusal::Refusal;
+use text::Lent;
 
-// Where the card lines of a body end, and the sum of the delays or the first refusal.
-#[derive(Clone, Copy)]
-struct CardLines {
-    end: usize,
-    ticks: Answer,
-}
-
-// The lines of all cards of a body. Each card is decoded once, for its line and for the length of the body.
-fn write_cards(body: &[u8], text: &mut [u8], at: usize) -> CardLines
-    requires good { body_good body.now ≡ true }
-    requires room { at + length (card_lines (cards_in body.now) body.now) ≤ length text.old }
-    ensures wrote { Wrote text.old at (card_lines (cards_in body.now) body.now) text.new result.end }
-    ensures ticks { reply result.ticks ≡ total_delay body.now }
+// The lines of all cards of a body, and the sum of the delays or the first refusal. Each card is decoded once, for both.
+fn push_cards(text: &mut Lent<'_, u8>, body: &Body<'_>) -> Result<u32, Refusal>
+    requires { HasRoom text.old (card_lines (cards_in body.now.bytes.now) body.now.bytes.now) }
+    ensures writes { Writes text.old (card_lines (cards_in body.now.bytes.now) body.now.bytes.now) text.new }
+    ensures ticks { reply result ≡ total_delay body.now.bytes.now }
 {
-    let count = (body.len() / 12) as u32;
-    let mut end = at;
-    let mut ticks = Answer::Value(0);
-    let mut n = 1;
-    while n <= count {
-        let read = book::read_card(body, n);
-        end = write_card(text, end, n, read);
+    let mut ticks = Ok(0);
+    for n in 1..body.count() + 1 {
+        let read = body.card(n);
+        push_card(text, n, read);
         ticks = book::add_delay(ticks, read);
-        n += 1;
     }
-    CardLines {
-        end: end,
-        ticks: ticks,
-    }
+    ticks
 }
 
 // The card lines of a body, and its last line.
-fn write_body(body: &[u8], text: &mut [u8], at: usize) -> usize
-    requires good { body_good body.now ≡ true }
-    requires room { at + length (body_text body.now) ≤ length text.old }
-    ensures { Wrote text.old at (body_text body.now) text.new result }
+fn push_body(text: &mut Lent<'_, u8>, body: &Body<'_>)
+    requires { HasRoom text.old (body_text body.now.bytes.now) }
+    ensures { Writes text.old (body_text body.now.bytes.now) text.new }
 {
-    let lines = write_cards(body, text, at);
-    let ticks = lines.ticks;
-    write_ticks(text, lines.end, ticks)
+    let ticks = push_cards(text, body);
+    push_ticks(text, ticks);
 }
 
-// The tune of entry `e` of an accepted book.
-pub fn write_tune(book: &[u8], e: usize, text: &mut [u8], at: usize) -> usize
-    requires accepted { AcceptedEntry book.now e }
-    requires room { at + length (tune_text book.now e) ≤ length text.old }
-    ensures { Wrote text.old at (tune_text book.now e) text.new result }
+// The tune of an entry.
+pub fn write_tune(entry: &Entry<'_>, text: &mut Lent<'_, u8>)
+    requires { HasRoom text.old (tune_text entry.now.book.now entry.now.place) }
+    ensures { Writes text.old (tune_text entry.now.book.now entry.now.place) text.new }
 {
-    let tune = book::entry_at(book, e);
-    let line_end = write_tune_line(text, at, tune.number, tune.cards);
-    write_body(book::body_at(book, e), text, line_end)
+    push_tune(text, entry.tune());
+    push_body(text, &entry.body());
 }

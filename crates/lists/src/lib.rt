@@ -8,14 +8,7 @@ ghost use Rattle.algebra.specs.Tests.{any_above};
 pub fn any_above(list: &[u16], most: u16) -> bool
     ensures { result ≡ any_above most list.now }
 {
-    let mut i = 0;
-    while i < list.len() {
-        if list[i] > most {
-            return true;
-        }
-        i += 1;
-    }
-    false
+    list.iter().any(|&number| number > most)
 }
 
 // The numbers of a list of at most ten, and zeros.
@@ -23,13 +16,9 @@ pub fn load(from: &[u16]) -> [u16; 10]
     requires { length from.now ≤ 10 }
     ensures { take (length from.now) result ≡ from.now }
 {
-    let mut m = [0u16; 10];
-    let mut i = 0;
-    while i < from.len() {
-        m[i] = from[i];
-        i += 1;
-    }
-    m
+    let mut numbers = [0u16; 10];
+    numbers[..from.len()].copy_from_slice(from);
+    numbers
 }
 
 // The list gets the first entries of another.
@@ -37,9 +26,15 @@ pub fn fill(list: &mut [u16], from: &[u16])
     requires { length list.old ≤ length from.now }
     ensures { list.new ≡ take (length list.old) from.now }
 {
-    let mut i = 0;
-    while i < list.len() {
-        list[i] = from[i];
-        i += 1;
-    }
+    list.copy_from_slice(&from[..list.len()]);
+}
+
+// The six numbers of a list, as a card has them.
+pub fn six(list: &[u16]) -> [u16; 6]
+    requires { length list.now ≡ 6 }
+    ensures { result ≡ list.now }
+{
+    let mut numbers = [0u16; 6];
+    numbers.copy_from_slice(list);
+    numbers
 }

@@ -1,13 +1,14 @@
 -- What press_book prints is a book that shows the strikes of the text; and it prints either a book or a line.
--- Main: pressed_within, said_within.
-use Rattle.std.specs.Prelude.{◌≡◌, refl, Bool, true, false, cond, List, [], ℕ, ◌≤◌, ltb, eqb, length}
+-- Main: pressed_within, said_within, said_room.
+use Rattle.std.specs.Prelude.{◌≡◌, refl, Bool, true, false, cond, List, [], ℕ, ◌≤◌, ltb, eqb, length, Option, Some, None}
 use Rattle.std.proofs.Common.{ap, arith, ltb-false, eqb-true}
 use Rattle.std.proofs.Math.Decide.{ℕ_discrete}
 use Rattle.book.specs.Layout.{longest_book}
+use Rattle.text.specs.declared.lent.Lent.{Lent}
 use Rattle.text.specs.Text.{book_refused}
+use Rattle.text.specs.Writing.{HasRoom}
 use Rattle.text.specs.Decimal.{book_refused_length}
-use Rattle.tune_text.specs.declared.mistakes.Check.{Check}
-use Rattle.tune_text.specs.declared.mistakes.Check.TheVariants as check
+use Rattle.tune_text.specs.declared.mistakes.Mistake.{Mistake}
 use Rattle.tune_text.specs.Reading.{lines_said, mistake_of, longest_text}
 use Rattle.tune_text.proofs.SizeLaws.{mistake_within}
 use Rattle.tune_text.specs.MistakeLines.{longest_line, too_long_line, mistake_line_within, too_long_within}
@@ -30,9 +31,9 @@ line_none n = go (eqb n 0) refl
     go true e h = eqb-true n 0 e
     go false e h = absurd (omega (arith, book_refused_length n))
 
-or_none : (k : Check) (n : ℕ) → length (mistake_or k n) ≡ 0 → n ≡ 0
-or_none check.Fine n h = line_none n h
-or_none (check.Wrong m) n h = absurd (omega (arith, mistake_some m))
+or_none : (k : Option Mistake) (n : ℕ) → length (mistake_or k n) ≡ 0 → n ≡ 0
+or_none None n h = line_none n h
+or_none (Some m) n h = absurd (omega (arith, mistake_some m))
 
 unrefused : (t : List ℕ) → length (said t) ≡ 0 → press_refusal t ≡ 0
 unfolding said
@@ -83,9 +84,9 @@ line_most n h = go (eqb n 0)
     go true = omega arith
     go false = h
 
-or_most : (t : List ℕ) (k : Check) → mistake_of (lines_said t) ≡ k → length t ≤ longest_text → length (mistake_or k (press_refusal t)) ≤ longest_line
-or_most t check.Fine e h = line_most (press_refusal t) (refused_within (text_numbers t) (text_counts t) (text_strikes t))
-or_most t (check.Wrong m) e h = mistake_line_within m (omega (arith, mistake_within t m e))
+or_most : (t : List ℕ) (k : Option Mistake) → mistake_of (lines_said t) ≡ k → length t ≤ longest_text → length (mistake_or k (press_refusal t)) ≤ longest_line
+or_most t None e h = line_most (press_refusal t) (refused_within (text_numbers t) (text_counts t) (text_strikes t))
+or_most t (Some m) e h = mistake_line_within m (omega (arith, mistake_within t m e))
 
 pub said_within : (t : List ℕ) → length (said t) ≤ longest_line
 unfolding said
@@ -95,3 +96,7 @@ said_within t = go (ltb longest_text (length t)) refl
         → length (cond over too_long_line (mistake_or (mistake_of (lines_said t)) (press_refusal t))) ≤ longest_line
     go true e = too_long_within
     go false e = or_most t (mistake_of (lines_said t)) refl (ltb-false longest_text (length t) e)
+
+-- so there is room for what is said in a list that was lent from its start
+pub said_room : (t : List ℕ) {l : List ℕ} (lent : Lent ℕ) → longest_line ≤ length l → lent.list.now ≡ l → lent.at ≡ 0 → HasRoom lent (said t)
+said_room t lent h p q = rw (p, q) (omega (arith, said_within t))

@@ -1,6 +1,6 @@
 -- What comes of a text, by what was read of it; and the test of the lists that are lent.
--- Main: said_wrong, said_read, never_refused, pressed_none, line_only, presses_both.
-use Rattle.std.specs.Prelude.{◌≡◌, Bool, ◌||◌, List, [], ℕ, ◌≤◌, length, take}
+-- Main: said_wrong, said_read, never_refused, said_unread, pressed_none, line_only, presses_both, presses_ending.
+use Rattle.std.specs.Prelude.{◌≡◌, Bool, ◌||◌, List, [], ℕ, ◌≤◌, length, take, Option, Some, None, Result, Ok, Err}
 use Rattle.std.proofs.Math.Path.{refl}
 use Rattle.std.proofs.Common.{sym, ◌∙◌, arith, length-append}
 use Rattle.std.proofs.Math.Bool.{true, false, cond}
@@ -18,23 +18,20 @@ use Rattle.text.proofs.WritingLaws.{wrote_none}
 use Rattle.writer.specs.Writing.{book_bytes}
 use Rattle.tune_text.specs.declared.lines.Line.{Line}
 use Rattle.tune_text.specs.declared.mistakes.Mistake.{Mistake}
-use Rattle.tune_text.specs.declared.mistakes.Check.{Check}
-use Rattle.tune_text.specs.declared.mistakes.Check.TheVariants as check
 use Rattle.tune_text.specs.declared.tunes.Sizes.{Sizes}
-use Rattle.tune_text.specs.declared.tunes.Tunes.{Tunes}
-use Rattle.tune_text.specs.declared.tunes.Tunes.TheVariants as tunes
+use Rattle.tune_text.specs.declared.tunes.Unread.{Unread}
+use Rattle.tune_text.specs.declared.tunes.Unread.TheVariants.{TooLong, Refused, Wrong}
 use Rattle.tune_text.specs.Reading.{lines_said, mistake_of, longest_text, too_short, checked, tunes_of}
-use Rattle.tune_text.specs.MistakeLines.{longest_line, mistake_line, too_long_line, mistake_line_within}
+use Rattle.tune_text.specs.MistakeLines.{longest_line, mistake_line, too_long_line, unread_line, mistake_line_within}
 use Rattle.tune_text.specs.Answers.{ReadSo}
 use Rattle.tune_text.proofs.AnswerLaws.{wrong_line, read_so, counts_size, read_front}
 use Rattle.pressing.specs.declared.from_lists.Lengths.{Lengths}
-use Rattle.pressing.specs.declared.texts.Pressed.TheVariants.{Texts, Refused}
 use Rattle.pressing.specs.Pressing.{text_numbers, text_counts, text_strikes, press_refusal, refusal_line, mistake_or, said, pressed}
 use Rattle.pressing.specs.Pressing.{lengths_short, lent_refusal, both_lengths, Presses}
 use Rattle.pressing.specs.Lists.{BothWrote, lists_book, lists_line, ListsWrote}
 use Rattle.pressing.specs.Texts.{ListsRead, Enough}
 
-pub sizes_so : {t n c s : List ℕ} {r : Tunes} → r ≡ tunes_of t n c s → {z : Sizes} → r ≡ tunes.Read z → ReadSo t n c s z
+pub sizes_so : {t n c s : List ℕ} {r : Result Sizes Unread} → r ≡ tunes_of t n c s → {z : Sizes} → r ≡ Ok z → ReadSo t n c s z
 sizes_so {t} {n} {c} {s} e {z} p = read_so t n c s z (sym e ∙ p)
 
 pub enough : (n c s b l : List ℕ) (short : Bool) → short ≡ lengths_short (length n) (length c) (length s) (length b) (length l) → short ≡ false
@@ -54,32 +51,35 @@ enough n c s b l short e no_short =
     }
 
 -- WHAT IS SAID of a text, by what was read of it
-abbrev said_by : Tunes → (refusal : ℕ) → List ℕ
-said_by tunes.TooLong n = too_long_line
-said_by (tunes.Refused why) n = []
-said_by (tunes.Wrong m) n = mistake_line m
-said_by (tunes.Read z) n = refusal_line n
+abbrev said_by : Result Sizes Unread → (refusal : ℕ) → List ℕ
+said_by (Err u) n = unread_line u
+said_by (Ok z) n = refusal_line n
 
-checked_said : (ls : List Line) (k : Check) (n : ℕ) → mistake_or k n ≡ said_by (checked ls k) n
+checked_said : (ls : List Line) (k : Option Mistake) (n : ℕ) → mistake_or k n ≡ said_by (checked ls k) n
 unfolding checked
-checked_said ls check.Fine n = refl
-checked_said ls (check.Wrong m) n = refl
+checked_said ls None n = refl
+checked_said ls (Some m) n = refl
 
-checked_not : (ls : List Line) (k : Check) (why : Refusal) → checked ls k ≡ tunes.Refused why → ⊥
+checked_not : (ls : List Line) (k : Option Mistake) (why : Refusal) → checked ls k ≡ Err (Refused why) → ⊥
 unfolding checked
-checked_not ls check.Fine why e = let z : ◌≡◌ {A = ℕ} 0 1 = cc in omega arith
-checked_not ls (check.Wrong m) why e = let z : ◌≡◌ {A = ℕ} 0 1 = cc in omega arith
+checked_not ls None why e = let z : ◌≡◌ {A = ℕ} 0 1 = cc in omega arith
+checked_not ls (Some m) why e = let z : ◌≡◌ {A = ℕ} 0 1 = cc in omega arith
+
+-- the line of a mistake is not empty
+pub mistake_some : (m : Mistake) → 1 ≤ length (mistake_line m)
+unfolding mistake_line
+mistake_some m = simp length-append (omega arith)
 
 module _ (t n c s b l : List ℕ) (h : Enough n c s b l) where
   -- lists that are long enough do not matter
-  read_as : tunes_of t n c s ≡ cond (ltb longest_text (length t)) tunes.TooLong (checked (lines_said t) (mistake_of (lines_said t)))
+  read_as : tunes_of t n c s ≡ cond (ltb longest_text (length t)) (Err TooLong) (checked (lines_said t) (mistake_of (lines_said t)))
   unfolding tunes_of too_short
   read_as = go (ltb longest_text (length t)) refl
     where
       go : (over : Bool) → ltb longest_text (length t) ≡ over
-          → cond over tunes.TooLong (cond (ltb (length n) (length t) || (ltb (length c) (length t) || ltb (length s) (length t)))
-          (tunes.Refused Length) (checked (lines_said t) (mistake_of (lines_said t))))
-          ≡ cond over tunes.TooLong (checked (lines_said t) (mistake_of (lines_said t)))
+          → cond over (Err TooLong) (cond (ltb (length n) (length t) || (ltb (length c) (length t) || ltb (length s) (length t)))
+          (Err (Refused Length)) (checked (lines_said t) (mistake_of (lines_said t))))
+          ≡ cond over (Err TooLong) (checked (lines_said t) (mistake_of (lines_said t)))
       go true e = refl
       go false e =
           let k = ltb-false longest_text (length t) e in
@@ -94,40 +94,44 @@ module _ (t n c s b l : List ℕ) (h : Enough n c s b l) where
   said_as = rw read_as (go (ltb longest_text (length t)))
     where
       go : (over : Bool) → cond over too_long_line (mistake_or (mistake_of (lines_said t)) (press_refusal t))
-          ≡ said_by (cond over tunes.TooLong (checked (lines_said t) (mistake_of (lines_said t)))) (press_refusal t)
+          ≡ said_by (cond over (Err TooLong) (checked (lines_said t) (mistake_of (lines_said t)))) (press_refusal t)
       go true = refl
       go false = checked_said (lines_said t) (mistake_of (lines_said t)) (press_refusal t)
 
-  module _ (r : Tunes) (e : r ≡ tunes_of t n c s) where
+  module _ (r : Result Sizes Unread) (e : r ≡ tunes_of t n c s) where
     said_so : said t ≡ said_by r (press_refusal t)
     said_so = rw e said_as
 
-    pub said_long : r ≡ tunes.TooLong → said t ≡ too_long_line
+    pub said_long : r ≡ Err TooLong → said t ≡ too_long_line
     said_long p = rw p at said_so
 
-    pub said_wrong : (m : Mistake) → r ≡ tunes.Wrong m → said t ≡ mistake_line m
+    pub said_wrong : (m : Mistake) → r ≡ Err (Wrong m) → said t ≡ mistake_line m
     said_wrong m p = rw p at said_so
 
-    pub said_read : (z : Sizes) → r ≡ tunes.Read z → said t ≡ refusal_line (press_refusal t)
+    pub said_read : (z : Sizes) → r ≡ Ok z → said t ≡ refusal_line (press_refusal t)
     said_read z p = rw p at said_so
 
-    pub never_refused : (why : Refusal) → r ≡ tunes.Refused why → ⊥
+    pub never_refused : (why : Refusal) → r ≡ Err (Refused why) → ⊥
     never_refused why p = go (ltb longest_text (length t)) (sym read_as ∙ sym e ∙ p)
       where
-        go : (over : Bool) → cond over tunes.TooLong (checked (lines_said t) (mistake_of (lines_said t))) ≡ tunes.Refused why → ⊥
+        go : (over : Bool) → cond over (Err TooLong) (checked (lines_said t) (mistake_of (lines_said t))) ≡ Err (Refused why) → ⊥
         go true q = let z : ◌≡◌ {A = ℕ} 0 1 = cc in omega arith
         go false q = checked_not (lines_said t) (mistake_of (lines_said t)) why q
 
     -- there is room for the line of a mistake
-    pub wrong_room : (m : Mistake) → r ≡ tunes.Wrong m → length (mistake_line m) ≤ length l
+    pub wrong_room : (m : Mistake) → r ≡ Err (Wrong m) → length (mistake_line m) ≤ length l
     wrong_room m p = omega (arith, mistake_line_within m (wrong_line t n c s m (sym e ∙ p)), h.line)
 
--- BOOK AND LINE. The line of a mistake is not empty
-pub mistake_some : (m : Mistake) → 1 ≤ length (mistake_line m)
-unfolding mistake_line
-mistake_some m = simp length-append (omega arith)
+    -- whatever it is that is said of a text that is not read: it is the line, and it is not empty
+    pub said_unread : (u : Unread) → r ≡ Err u → said t ≡ unread_line u
+    said_unread u p = rw p at said_so
 
--- if something is said, there is no book
+    pub unread_some : (u : Unread) → r ≡ Err u → 1 ≤ length (unread_line u)
+    unread_some TooLong p = omega arith
+    unread_some (Refused why) p = absurd (never_refused why p)
+    unread_some (Wrong m) p = mistake_some m
+
+-- BOOK AND LINE: if something is said, there is no book
 pub pressed_none : (t : List ℕ) → 1 ≤ length (said t) → pressed t ≡ []
 unfolding pressed
 pressed_none t h = rw (ne_eqb (length (said t)) 0 (λ e. omega arith))
@@ -149,8 +153,8 @@ pressed_lists t e = rw e (go (press_refusal t) (eqb (press_refusal t) 0))
     go n true = refl
     go n false = let k = book_refused_length n in rw (ne_eqb (length (book_refused n)) 0 (λ e. omega arith))
 
-module _ {t n c s n-now c-now s-now : List ℕ} (g : ListsRead t n c s n-now c-now s-now) {r : Tunes} (e : r ≡ tunes_of t n c s) {z : Sizes}
-    (p : r ≡ tunes.Read z) where
+module _ {t n c s n-now c-now s-now : List ℕ} (g : ListsRead t n c s n-now c-now s-now) {r : Result Sizes Unread} (e : r ≡ tunes_of t n c s) {z : Sizes}
+    (p : r ≡ Ok z) where
   abbrev so : ReadSo t n c s z
   so = sizes_so e p
 
@@ -164,6 +168,11 @@ module _ {t n c s n-now c-now s-now : List ℕ} (g : ListsRead t n c s n-now c-n
   strikes_front : take z.strikes s-now ≡ text_strikes t
   strikes_front = rw so.strikes (read_front (tunes_of t n c s) z s (text_strikes t) s-now (sym e ∙ p) g.strikes_are)
 
+  -- so the line of the lists is what is said of the text
+  pub line_both : said t ≡ lists_line (text_numbers t) (text_counts t) (text_strikes t)
+      → lists_line (take z.tunes n-now) (take z.tunes c-now) (take z.strikes s-now) ≡ said t
+  line_both q = rw (numbers_front, counts_front, strikes_front) (sym q)
+
   pub lists_both : {b l b-now l-now : List ℕ} {k : Lengths} → said t ≡ lists_line (text_numbers t) (text_counts t) (text_strikes t)
       → ListsWrote (take z.tunes n-now) (take z.tunes c-now) (take z.strikes s-now) b l k b-now l-now
       → BothWrote (pressed t) (said t) b l k b-now l-now
@@ -174,7 +183,7 @@ same_lengths z b l p q = rw (← p, ← q)
 
 -- THE CONTRACT: a list is too short, or all are long enough
 module _ (t n c s b l : List ℕ) (short : Bool) (e : short ≡ lengths_short (length n) (length c) (length s) (length b) (length l)) where
-  pub presses_refused : short ≡ true → Presses t n c s b l (Refused Length) n c s b l
+  pub presses_refused : short ≡ true → Presses t n c s b l (Err Length) n c s b l
   unfolding lent_refusal
   presses_refused h =
       let x : lent_refusal n c s b l ≡ number Length = rw (← e, h) in
@@ -190,7 +199,7 @@ module _ (t n c s b l : List ℕ) (short : Bool) (e : short ≡ lengths_short (l
 
   pub presses_both : {z : Lengths} {n-now c-now s-now b-now l-now : List ℕ}
       → short ≡ false → BothWrote (pressed t) (said t) b l z b-now l-now → ListsRead t n c s n-now c-now s-now
-      → Presses t n c s b l (Texts z) n-now c-now s-now b-now l-now
+      → Presses t n c s b l (Ok z) n-now c-now s-now b-now l-now
   unfolding lent_refusal
   presses_both {z} h w g =
       let x : lent_refusal n c s b l ≡ 0 = rw (← e, h) in
@@ -203,3 +212,9 @@ module _ (t n c s b l : List ℕ) (short : Bool) (e : short ≡ lengths_short (l
         book_is = unless_done _ _ _ _ x w.book.text;
         line_is = unless_done _ _ _ _ x w.line.text;
       }
+
+  -- where the line ends as what was written through the list that it was lent as
+  pub presses_ending : {z : Lengths} {n-now c-now s-now b-now l-now l-end : List ℕ}
+      → short ≡ false → BothWrote (pressed t) (said t) b l z b-now l-end → ListsRead t n c s n-now c-now s-now → l-now ≡ l-end
+      → Presses t n c s b l (Ok z) n-now c-now s-now b-now l-now
+  presses_ending h w g e = rw e (presses_both h w g)

@@ -1,16 +1,15 @@
 -- A book pressed from lists: how long a book is lent to the writer, and what comes of it.
 -- Main: BothWrote, lists_book, lists_line, ListsWrote; room_for, room_within; refused_within; part_within, part_length, lists_number, lists_done,
 -- lists_refused.
-use Rattle.std.specs.Prelude.{◌≡◌, refl, Bool, true, false, cond, not, List, [], ◌++◌, ℕ, ◌+◌, ◌≤◌, ◌<◌, ltb, eqb, drop}
+use Rattle.std.specs.Prelude.{◌≡◌, refl, Bool, true, false, cond, not, List, [], ◌++◌, ℕ, ◌+◌, ◌≤◌, ◌<◌, ltb, eqb, drop, Result, Ok, Err}
+use Rattle.std.specs.Result.{result_unwrap_or}
 use Rattle.std.proofs.Math.Path.{sym}
 use Rattle.std.proofs.Common.{ap, ◌∙◌, length-take-le, ltb-false}
 use native.Mathlib.Omega.{arith}
 use Rattle.std.proofs.Math.ListN.{length, take, take-append-drop}
-use Rattle.refusal.specs.declared.Outcome.{Outcome}
-use Rattle.refusal.specs.declared.Outcome.TheVariants as outcomes
 use Rattle.refusal.specs.declared.Refusal.{Refusal}
 use Rattle.refusal.specs.declared.Refusal.TheVariants.{Length, BookSize, TuneNumber, Layout, StrikeField}
-use Rattle.refusal.specs.Replies.{number, outcome, unless, refused_number, no_refusal}
+use Rattle.refusal.specs.Replies.{number, Reply, reply, reply_with, outcome, unless, refused_number, no_refusal}
 use Rattle.book.specs.Layout.{longest_book}
 use Rattle.book.specs.Open.{rising}
 use Rattle.strike.specs.Turns.{strikes_bad}
@@ -42,6 +41,12 @@ ListsWrote ns cs ss = BothWrote (lists_book ns cs ss) (lists_line ns cs ss)
 -- HOW LONG A BOOK is lent to the writer: as needed, or of no bytes if that is too long
 unfoldable pub room_for : (counts : List ℕ) → ℕ
 room_for cs = unless (size_refusal cs) (book_length cs) 0
+
+pub room_answered : (cs : List ℕ) (r : Result ℕ Refusal) → reply r ≡ reply_with 0 (size_refusal cs) (book_length cs)
+    → result_unwrap_or r 0 ≡ room_for cs
+unfolding room_for reply_with unless
+room_answered cs (Ok n) e = ap (λ (x : Reply ℕ). x.value) e
+room_answered cs (Err why) e = ap (λ (x : Reply ℕ). x.value) e
 
 pub room_within : (cs : List ℕ) → room_for cs ≤ longest_book
 unfolding room_for size_refusal unless
@@ -95,32 +100,47 @@ module _ (cs b : List ℕ) (size : ℕ) (room : size ≡ room_for cs) (enough : 
   pub part_length : length (take size b) ≡ size
   part_length = length-take-le size b part_within
 
-  module _ (ns ss : List ℕ) (r : Outcome) (p : List ℕ) (w : Written ns cs ss (take size b) r p) where
+  module _ (ns ss : List ℕ) (r : Result Unit Refusal) (p : List ℕ) (w : Written ns cs ss (take size b) r p) where
     pub lists_answer : outcome r ≡ lists_refusal ns cs ss
     lists_answer = w.answers ∙ ap (write_refusal ns cs ss) (part_length ∙ room) ∙ room_decides ns cs ss
 
-    pub lists_done : r ≡ outcomes.Done → (l : List ℕ)
+    pub lists_done : r ≡ Ok tt → (l : List ℕ)
         → ListsWrote ns cs ss b l (record { book = size; line = 0 }) (p ++ drop size b) l
     unfolding lists_book refusal_line written unless
     lists_done e l =
         let z = no_refusal _ r lists_answer e in
-        let f : size ≡ length (book_bytes ns cs ss) = sym part_length ∙ whole_fits ns cs ss (take size b) r w.answers e in
+        let n = no_refusal _ r w.answers e in
+        let f : size ≡ length (book_bytes ns cs ss) = sym part_length ∙ whole_fits ns cs ss (take size b) (sym n) in
         let g : 0 + length (book_bytes ns cs ss) ≡ size = omega arith in
         let k = part_within in
-        let q : p ≡ book_bytes ns cs ss = w.book_is ∙ rw (no_refusal _ r w.answers e) in
+        let q : p ≡ book_bytes ns cs ss = w.book_is ∙ rw n in
         rw z (record {
           book = record { room = omega arith; text = rw (q, g); after = omega arith };
           line = wrote_none l 0 (omega arith);
         })
 
-    module _ (why : Refusal) (e : r ≡ outcomes.Refused why) where
+    -- nothing is said, then
+    pub lists_silent : r ≡ Ok tt → lists_line ns cs ss ≡ []
+    unfolding refusal_line
+    lists_silent e = rw (no_refusal _ r lists_answer e)
+
+    module _ (why : Refusal) (e : r ≡ Err why) where
       pub lists_number : number why ≡ lists_refusal ns cs ss
       lists_number = (refused_number _ r why lists_answer e).0
 
-      pub lists_refused : {l l-now : List ℕ} {k : ℕ} → Wrote l 0 (book_refused (number why)) l-now k
-          → ListsWrote ns cs ss b l (record { book = 0; line = k }) (p ++ drop size b) l-now
-      unfolding lists_book refusal_line unless
-      lists_refused v =
+      -- the refusal is said
+      pub lists_said : lists_line ns cs ss ≡ book_refused (number why)
+      unfolding refusal_line
+      lists_said = rw ((refused_number _ r why lists_answer e).1, lists_number)
+
+      -- and the book is as it was
+      pub lists_kept : Wrote b 0 (lists_book ns cs ss) (p ++ drop size b) 0
+      unfolding lists_book unless
+      lists_kept =
           let n = (refused_number _ r why lists_answer e).1 in
           let q : p ≡ take size b = w.book_is ∙ rw (refused_number _ r why w.answers e).1 in
-          rw (n, q, take-append-drop size b) (record { book = wrote_none b 0 (omega arith); line = rw lists_number at v })
+          rw (n, q, take-append-drop size b) (wrote_none b 0 (omega arith))
+
+      pub lists_refused : {l l-now : List ℕ} {k : ℕ} → Wrote l 0 (book_refused (number why)) l-now k
+          → ListsWrote ns cs ss b l (record { book = 0; line = k }) (p ++ drop size b) l-now
+      lists_refused v = record { book = lists_kept; line = rw lists_said v }

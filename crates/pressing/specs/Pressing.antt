@@ -1,18 +1,16 @@
 -- What comes of a text: the book that the program press_book writes to standard output, or the line that it writes to standard error.
 -- Main: text_numbers, text_counts, text_strikes, press_refusal, refusal_line, said, pressed; lent_refusal, press_reply, Presses.
-use Rattle.std.specs.Prelude.{◌≡◌, Bool, cond, ◌||◌, List, [], ℕ, ltb, eqb, length}
+use Rattle.std.specs.Prelude.{◌≡◌, Bool, cond, ◌||◌, List, [], ℕ, ltb, eqb, length, Option, Some, None, Result}
+use Rattle.refusal.specs.declared.Refusal.{Refusal}
 use Rattle.refusal.specs.declared.Refusal.TheVariants.{Length}
-use Rattle.refusal.specs.Replies.{number, Reply, replied, refused_with, reply_with, unless}
+use Rattle.refusal.specs.Replies.{number, Reply, reply_or, reply_with, unless}
 use Rattle.book.specs.Layout.{longest_book}
 use Rattle.text.specs.Text.{book_refused, written}
 use Rattle.writer.specs.Writing.{book_bytes, book_length, write_refusal}
-use Rattle.tune_text.specs.declared.mistakes.Check.{Check}
-use Rattle.tune_text.specs.declared.mistakes.Check.TheVariants as check
+use Rattle.tune_text.specs.declared.mistakes.Mistake.{Mistake}
 use Rattle.tune_text.specs.Reading.{lines_said, numbers_of, counts_of, strikes_of, mistake_of, longest_text, tunes_of, when_read}
 use Rattle.tune_text.specs.MistakeLines.{longest_line, mistake_line, too_long_line}
 use Rattle.pressing.specs.declared.from_lists.Lengths.{Lengths}
-use Rattle.pressing.specs.declared.texts.Pressed.{Pressed}
-use Rattle.pressing.specs.declared.texts.Pressed.TheVariants.{Texts, Refused}
 
 -- THE LISTS of a text: its tune numbers, their counts of cards, the numbers of its strikes
 abbrev pub text_numbers : (text : List ℕ) → List ℕ
@@ -36,9 +34,9 @@ unfoldable pub refusal_line : (refusal : ℕ) → List ℕ
 refusal_line n = cond (eqb n 0) [] (book_refused n)
 
 -- for the first mistake, or else for what is refused
-abbrev pub mistake_or : Check → (refusal : ℕ) → List ℕ
-mistake_or (check.Wrong m) n = mistake_line m
-mistake_or check.Fine n = refusal_line n
+abbrev pub mistake_or : Option Mistake → (refusal : ℕ) → List ℕ
+mistake_or (Some m) n = mistake_line m
+mistake_or None n = refusal_line n
 
 -- for a text
 unfoldable pub said : (text : List ℕ) → List ℕ
@@ -60,15 +58,14 @@ lent_refusal n c s b l = cond (lengths_short (length n) (length c) (length s) (l
 abbrev pub no_bytes : Lengths
 no_bytes = record { book = 0; line = 0 }
 
-abbrev pub press_reply : Pressed → Reply Lengths
-press_reply (Texts z) = replied z
-press_reply (Refused r) = refused_with no_bytes (number r)
+abbrev pub press_reply : Result Lengths Refusal → Reply Lengths
+press_reply r = reply_or no_bytes r
 
 abbrev pub both_lengths : (text : List ℕ) → Lengths
 both_lengths t = record { book = length (pressed t); line = length (said t) }
 
 -- THE CONTRACT: what is answered, and what is in the lent lists afterwards
-pub record Presses (t n c s b l : List ℕ) (r : Pressed) (n-now c-now s-now b-now l-now : List ℕ) : Type 0 where
+pub record Presses (t n c s b l : List ℕ) (r : Result Lengths Refusal) (n-now c-now s-now b-now l-now : List ℕ) : Type 0 where
   pub answers : press_reply r ≡ reply_with no_bytes (lent_refusal n c s b l) (both_lengths t)
   pub numbers_are : n-now ≡ unless (lent_refusal n c s b l) (when_read (tunes_of t n c s) n (text_numbers t)) n
   pub counts_are : c-now ≡ unless (lent_refusal n c s b l) (when_read (tunes_of t n c s) c (text_counts t)) c

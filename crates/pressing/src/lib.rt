@@ -5,4 +5,4 @@ mod from_lists;
 mod texts;
 
 pub use from_lists::{LONGEST_LINE, Lengths};
-pub use texts::{Pressed, press};
+pub use texts::press;

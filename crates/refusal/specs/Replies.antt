@@ -1,14 +1,10 @@
 -- What answers say in numbers. Every promise about an answer goes through these definitions.
--- Main: number, number_not_zero, outcome, Reply, reply, reply_with, refused_reply, value_reply, reply_refused, reply_value, unless, Gives.
-use Rattle.std.specs.Prelude.{◌≡◌, refl, false, cond, ℕ, eqb}
+-- Main: number, number_not_zero, outcome, Reply, reply_or, reply, reply_with, refused_reply, value_reply, reply_refused, reply_value, unless, Gives.
+use Rattle.std.specs.Prelude.{◌≡◌, refl, false, cond, ℕ, eqb, Result, Ok, Err}
 use Rattle.std.proofs.Math.Path.{ap, sym}
 use Rattle.std.proofs.Common.{◌∙◌, true≢false, eq-eqb}
 use Rattle.refusal.specs.declared.Refusal.{Refusal}
 use Rattle.refusal.specs.declared.Refusal.TheVariants.{Dimension, Length, Range, Undecodable, BookSize, TuneNumber, Layout, NoSuchTune, NoSuchCard, StrikeField, DeadLines, Width, NoSuchBell}
-use Rattle.refusal.specs.declared.Outcome.{Outcome}
-use Rattle.refusal.specs.declared.Outcome.TheVariants as outcomes
-use Rattle.refusal.specs.declared.Answer.{Answer}
-use Rattle.refusal.specs.declared.Answer.TheVariants as answers
 
 -- the number of a refusal
 abbrev pub number : Refusal → ℕ
@@ -43,9 +39,9 @@ number_not_zero Width = refl
 number_not_zero NoSuchBell = refl
 
 -- an outcome: 0 when done, or the refusal's number
-abbrev pub outcome : Outcome → ℕ
-outcome outcomes.Done = 0
-outcome (outcomes.Refused r) = number r
+abbrev pub outcome : {A : Type 0} → Result A Refusal → ℕ
+outcome (Ok _) = 0
+outcome (Err r) = number r
 
 -- REPLIES: what an answer says, the refusal's number, 0 if there is none, and the value
 pub record Reply (A : Type 0) : Type 0 where
@@ -63,10 +59,14 @@ refused_with empty n = record { refusal = n; value = empty }
 unfoldable pub reply_with : {A : Type 0} → (empty : A) → (refusal : ℕ) → (value : A) → Reply A
 reply_with empty n v = record { refusal = n; value = cond (eqb n 0) v empty }
 
+-- what an answer says: its value, or its refusal with the empty value of its kind
+abbrev pub reply_or : {A : Type 0} → (empty : A) → Result A Refusal → Reply A
+reply_or empty (Ok v) = replied v
+reply_or empty (Err r) = refused_with empty (number r)
+
 -- of an answer in one number
-abbrev pub reply : Answer → Reply ℕ
-reply (answers.Value v) = replied v
-reply (answers.Refused r) = refused_with 0 (number r)
+abbrev pub reply : Result ℕ Refusal → Reply ℕ
+reply r = reply_or 0 r
 
 -- A REFUSAL OR NONE, by its number
 pub refusal_some : (r : Refusal) → number r ≡ 0 → ⊥
@@ -95,10 +95,10 @@ module _ {A : Type 0} (empty : A) (n : ℕ) (v : A) where
       (z, ap (λ (t : Reply A). t.value) e ∙ rw (eq-eqb n 0 z))
 
 -- the same of an answer in one number
-pub answer_refused : (r : Answer) (why : Refusal) (n v : ℕ) → r ≡ answers.Refused why → reply r ≡ reply_with 0 n v → (number why ≡ n) × (n ≡ 0 → ⊥)
+pub answer_refused : (r : Result ℕ Refusal) (why : Refusal) (n v : ℕ) → r ≡ Err why → reply r ≡ reply_with 0 n v → (number why ≡ n) × (n ≡ 0 → ⊥)
 answer_refused r why n v p e = reply_refused 0 n v why (rw p at e)
 
-pub answer_value : (r : Answer) (x n v : ℕ) → r ≡ answers.Value x → reply r ≡ reply_with 0 n v → (n ≡ 0) × (x ≡ v)
+pub answer_value : (r : Result ℕ Refusal) (x n v : ℕ) → r ≡ Ok x → reply r ≡ reply_with 0 n v → (n ≡ 0) × (x ≡ v)
 answer_value r x n v p e = reply_value 0 n v x (rw p at e)
 
 -- WHAT IS LENT, afterwards: its new content where nothing was refused, and its old one else
@@ -119,16 +119,16 @@ pub record Gives {A : Type 0} (n : ℕ) (v old : A) (r : ℕ) (now : A) : Type 0
   pub lent_is : now ≡ unless n v old
 
 -- what an outcome says of the refusal
-pub refused_number : (n : ℕ) (r : Outcome) (x : Refusal) → outcome r ≡ n → r ≡ outcomes.Refused x → (number x ≡ n) × (eqb n 0 ≡ false)
+pub refused_number : {A : Type 0} (n : ℕ) (r : Result A Refusal) (x : Refusal) → outcome r ≡ n → r ≡ Err x → (number x ≡ n) × (eqb n 0 ≡ false)
 refused_number n r x e q = let s : number x ≡ n = rw q at e in (s, rw (← s) (number_not_zero x))
 
-pub no_refusal : (n : ℕ) (r : Outcome) → outcome r ≡ n → r ≡ outcomes.Done → n ≡ 0
+pub no_refusal : {A : Type 0} {x : A} (n : ℕ) (r : Result A Refusal) → outcome r ≡ n → r ≡ Ok x → n ≡ 0
 no_refusal n r e q = sym (rw q at e)
 
 -- and of what is given: a list that tests refused stays as it was, and one that was filled is given
-module _ {A : Type 0} (n : ℕ) (v old : A) (r : Outcome) (e : outcome r ≡ n) where
-  pub gives_refused : (x : Refusal) → r ≡ outcomes.Refused x → Gives n v old (number x) old
+module _ {A B : Type 0} (n : ℕ) (v old : A) (r : Result B Refusal) (e : outcome r ≡ n) where
+  pub gives_refused : (x : Refusal) → r ≡ Err x → Gives n v old (number x) old
   gives_refused x q = let (s, t) = refused_number n r x e q in record { answers = s; lent_is = unless_refused n v old t }
 
-  pub gives_done : r ≡ outcomes.Done → (now : A) → now ≡ v → Gives n v old 0 now
+  pub gives_done : {x : B} → r ≡ Ok x → (now : A) → now ≡ v → Gives n v old 0 now
   gives_done q now h = let s = no_refusal n r e q in record { answers = sym s; lent_is = unless_done n v old now s h }

@@ -1,10 +1,10 @@
-// Why an operation refuses, one variant for each refusal with its number, and the answers that may be refusals.
+// Why an operation refuses, one variant for each refusal with its number. An operation answers `Result<T, Refusal>`.
 #![tactic(auto)]
 
 ghost use Rattle.std.specs.Prelude.{◌≡◌};
 ghost use Rattle.refusal.specs.Replies.{number, outcome};
 
-#[derive(Clone, Copy)]
+#[derive(Clone, Copy, Debug, PartialEq, Eq)]
 pub enum Refusal {
     // 1: k is not 1 to 5.
     Dimension,
@@ -34,47 +34,35 @@ pub enum Refusal {
     NoSuchBell,
 }
 
-// The answer of an operation that has nothing to say but that it is done.
-#[derive(Clone, Copy)]
-pub enum Outcome {
-    Done,
-    Refused(Refusal),
-}
-
-// The answer of an operation that gives a number.
-#[derive(Clone, Copy)]
-pub enum Answer {
-    Value(u32),
-    Refused(Refusal),
-}
-
 // The number of a refusal.
-pub fn number(r: Refusal) -> u32
-    ensures { result ≡ number r }
-{
-    match r {
-        Refusal::Dimension => 1,
-        Refusal::Length => 2,
-        Refusal::Range => 3,
-        Refusal::Undecodable => 4,
-        Refusal::BookSize => 5,
-        Refusal::TuneNumber => 6,
-        Refusal::Layout => 7,
-        Refusal::NoSuchTune => 8,
-        Refusal::NoSuchCard => 9,
-        Refusal::StrikeField => 10,
-        Refusal::DeadLines => 11,
-        Refusal::Width => 12,
-        Refusal::NoSuchBell => 13,
+impl From<Refusal> for u32 {
+    ghost from_gives = { λ why n. n ≡ number why };
+
+    fn from(why: Refusal) -> u32 {
+        match why {
+            Refusal::Dimension => 1,
+            Refusal::Length => 2,
+            Refusal::Range => 3,
+            Refusal::Undecodable => 4,
+            Refusal::BookSize => 5,
+            Refusal::TuneNumber => 6,
+            Refusal::Layout => 7,
+            Refusal::NoSuchTune => 8,
+            Refusal::NoSuchCard => 9,
+            Refusal::StrikeField => 10,
+            Refusal::DeadLines => 11,
+            Refusal::Width => 12,
+            Refusal::NoSuchBell => 13,
+        }
     }
 }
 
 // An outcome as a number: 0 when done, or the refusal's.
-pub fn outcome_number(o: Outcome) -> u32
-    ensures { result ≡ outcome o }
+pub fn outcome_number(of: Result<(), Refusal>) -> u32
+    ensures { result ≡ outcome of }
 {
-    match o {
-        Outcome::Done => 0,
-        Outcome::Refused(r) => number(r),
+    match of {
+        Ok(()) => 0,
+        Err(why) => why.into(),
     }
 }

@@ -1,6 +1,6 @@
 -- What a report is, by what Open says of the book; and what a caller learns from the answer.
 -- Main: report_accepted, empty_reported, opened_refused; kind_listing, kind_wear; answer_within, answer_reported, report_read.
-use Rattle.std.specs.Prelude.{◌≡◌, refl, ℕ, ◌≤◌, ◌<◌, length, take}
+use Rattle.std.specs.Prelude.{◌≡◌, refl, ℕ, ◌≤◌, ◌<◌, length, take, Result, Ok, Err}
 use Rattle.std.proofs.Common.{sym, ◌∙◌, arith, length-take, take_all}
 use Rattle.std.proofs.Math.Path.{ap}
 use mathlib.Core.List.{List, []}
@@ -9,8 +9,6 @@ use borrow.Author.Tests.{lt-ltb, eq-eqb, ne_eqb}
 use Rattle.refusal.specs.Replies.{number, reply, reply_with, answer_refused, answer_value, unless}
 use Rattle.refusal.specs.declared.Refusal.{Refusal}
 use Rattle.refusal.specs.declared.Refusal.TheVariants.{BookSize}
-use Rattle.refusal.specs.declared.Answer.{Answer}
-use Rattle.refusal.specs.declared.Answer.TheVariants as answers
 use Rattle.book.specs.Layout.{longest_book, tunes}
 use Rattle.book.specs.Open.{size_bad, contents_refusal, open_refusal}
 use Rattle.book.specs.Accepted.{Accepted}
@@ -49,14 +47,14 @@ module _ (k : Kind) where
   empty_reported = report_accepted [] (empty_accepted [] refl) ∙ ap (joined (tune_report k [])) (empty_tunes [] refl)
 
   -- what Open answered decides
-  pub opened_refused : (r : Answer) (why : Refusal) (m : ℕ) (bs : List ℕ) → r ≡ answers.Refused why
+  pub opened_refused : (r : Result ℕ Refusal) (why : Refusal) (m : ℕ) (bs : List ℕ) → r ≡ Err why
       → reply r ≡ reply_with 0 (open_refusal bs) (tunes bs) → m ≡ number why → report k bs ≡ book_refused m
   opened_refused r why m bs p e f =
       let t = answer_refused r why (open_refusal bs) (tunes bs) p e in
       report_refused bs t.1 ∙ ap book_refused (sym t.0 ∙ sym f)
 
   -- THE ANSWER: as many bytes at the beginning of the text are the report, and they are within it
-  module _ (bs text : List ℕ) (r : Answer) (x : ℕ) (p : r ≡ answers.Value x) (a : reply r ≡ reply_with 0 (room_refusal longest text) (length (report k bs))) where
+  module _ (bs text : List ℕ) (r : Result ℕ Refusal) (x : ℕ) (p : r ≡ Ok x) (a : reply r ≡ reply_with 0 (room_refusal longest text) (length (report k bs))) where
     pub answer_within : x ≤ longest
     answer_within = omega (arith, report_within k bs, (answer_value r x (room_refusal longest text) (length (report k bs)) p a).1)
 

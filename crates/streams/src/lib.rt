@@ -6,5 +6,5 @@ mod failure;
 mod input;
 mod output;
 
-pub use input::{Input, read_book, read_input};
+pub use input::{read_book, read_input};
 pub use output::print;

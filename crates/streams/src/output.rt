@@ -1,49 +1,32 @@
 // The output of a program. No contract can say which bytes of a text arrive: the standard library promises of a write how many it took at most.
-ghost use Rattle.std.specs.Prelude.{◌≡◌, ◌+◌, ◌≤◌, length, drop};
+ghost use Rattle.std.specs.Prelude.{◌<◌, ◌≤◌, length, IfSome};
 
-use crate::failure::fail;
+use crate::failure::said;
 use std::io;
 
-// What is left of a text from a place on.
-fn remaining(text: &[u8], at: usize) -> &[u8]
-    requires { at ≤ length text.now }
-    ensures { result.now ≡ drop at text.now }
+// One write: how many of the bytes it took, at least one. If it took none it failed, and it is said why.
+fn write_some(rt: &(impl Print + Eprint), text: &[u8]) -> Option<usize>
+    ensures { IfSome result (λ taken. (0 < taken) × (taken ≤ length text.now)) }
 {
-    &text[at..]
-}
-
-// A write that failed took no bytes. It is said why.
-fn none_taken(rt: &impl Eprint, why: io::Error) -> usize
-    ensures { result ≡ 0 }
-{
-    fail(rt, "cannot write the output", why);
-    0
-}
-
-// One write of what is left: how many bytes it took, 0 if it failed, which was said.
-fn write_some(rt: &(impl Print + Eprint), text: &[u8], at: usize) -> usize
-    requires { at ≤ length text.now }
-    ensures { at + result ≤ length text.now }
-{
-    match rt.write_some(remaining(text, at)) {
-        Ok(0) => none_taken(rt, io::Error::from(io::ErrorKind::WriteZero)),
-        Ok(taken) => taken,
-        Err(why) => none_taken(rt, why),
-    }
+    let written = match rt.write_some(text) {
+        Ok(0) => Err(io::Error::from(io::ErrorKind::WriteZero)),
+        written => written,
+    };
+    said(rt, "cannot write the output", written)
 }
 
 // Prints a text on standard output, and answers how many of its bytes were taken. A write that takes only a part is gone on with; after one
-// that fails nothing more is written, so what arrives is always a beginning of the text.
+// that fails nothing more is written, so what arrives is always a beginning of the text. The library's `write_all` does not say how many bytes
+// were taken before it failed.
 pub fn print(rt: &(impl Print + Eprint), text: &[u8]) -> usize
     ensures { result ≤ length text.now }
 {
-    let mut at = 0;
-    while at < text.len() {
-        let taken = write_some(rt, text, at);
-        if taken == 0 {
-            return at;
-        }
-        at += taken;
+    let mut left = text;
+    while !left.is_empty() {
+        let Some(taken) = write_some(rt, left) else {
+            break;
+        };
+        left = &left[taken..];
     }
-    at
+    text.len() - left.len()
 }

@@ -43,7 +43,7 @@ joined t zero = []
 joined t (suc k) = joined t k ++ t k
 
 -- IN A LENT LIST: the first `at` bytes as they were, then the new bytes, then the rest as it was
-unfoldable pub written : (old : List ℕ) → (at : ℕ) → (bytes : List ℕ) → List ℕ
+unfoldable pub written : {A : Type 0} → (old : List A) → (at : ℕ) → (bytes : List A) → List A
 written old a x = take a old ++ x ++ drop (a + length x) old
 
 -- 2 if the list lent for a text is shorter than the longest text

@@ -1,65 +1,51 @@
-// Bytes, words and numbers written into a lent list from a place on. Each function answers the next place.
-ghost use Rattle.std.specs.Prelude.{◌+◌, ◌≤◌, [], ◌∷◌, length};
+// Numbers and lines written into a lent list. This is no `Display`: a write through `fmt` may fail, so each caller would have to show of each
+// write that it did not, where here room is asked for once and no write fails.
 ghost use Rattle.text.specs.Text.{decimal, spaced, word_line, book_refused};
-ghost use Rattle.text.specs.Writing.{Wrote};
+ghost use Rattle.text.specs.Writing.{HasRoom, Writes};
 
-// One byte.
-pub fn write_byte(text: &mut [u8], at: usize, byte: u8) -> usize
-    requires { at + 1 ≤ length text.old }
-    ensures { Wrote text.old at (byte ∷ []) text.new result }
-{
-    text[at] = byte;
-    at + 1
-}
+use crate::lent::Lent;
 
-// All bytes of a word.
-pub fn write_word(text: &mut [u8], at: usize, word: &[u8]) -> usize
-    requires { at + length word.now ≤ length text.old }
-    ensures { Wrote text.old at word.now text.new result }
-{
-    let mut i = 0;
-    while i < word.len() {
-        text[at + i] = word[i];
-        i += 1;
+impl Lent<'_, u8> {
+    // A number in decimal, with the fewest digits.
+    #[tactic(auto, using(crate::proofs::WritingLaws::writing_digits))]
+    pub fn push_decimal(&mut self, n: u32)
+        requires { HasRoom self.old (decimal n) }
+        ensures { Writes self.old (decimal n) self.new }
+    {
+        if n < 10 {
+            return self.push(48 + n as u8);
+        }
+        self.push_decimal(n / 10);
+        self.push(48 + (n % 10) as u8);
     }
-    at + i
-}
 
-// A number in decimal, with the fewest digits.
-pub fn write_decimal(text: &mut [u8], at: usize, n: u32) -> usize
-    requires { at + length (decimal n) ≤ length text.old }
-    ensures { Wrote text.old at (decimal n) text.new result }
-{
-    if n < 10 {
-        return write_byte(text, at, 48 + n as u8);
+    // A number after a space.
+    #[tactic(auto, unfolding(crate::specs::Text::spaced))]
+    pub fn push_spaced(&mut self, n: u32)
+        requires { HasRoom self.old (spaced n) }
+        ensures { Writes self.old (spaced n) self.new }
+    {
+        self.push(b' ');
+        self.push_decimal(n);
     }
-    let next = write_decimal(text, at, n / 10);
-    write_byte(text, next, 48 + (n % 10) as u8)
-}
 
-// A number after a space.
-pub fn write_spaced(text: &mut [u8], at: usize, n: u32) -> usize
-    requires { at + length (spaced n) ≤ length text.old }
-    ensures { Wrote text.old at (spaced n) text.new result }
-{
-    let next = write_byte(text, at, b' ');
-    write_decimal(text, next, n)
-}
+    // A line of a word and a number.
+    #[tactic(auto, using(crate::proofs::WritingLaws::writing), unfolding(crate::specs::Text::word_line))]
+    pub fn push_word_line(&mut self, word: &[u8], n: u32)
+        requires { HasRoom self.old (word_line word.now n) }
+        ensures { Writes self.old (word_line word.now n) self.new }
+    {
+        self.extend_from_slice(word);
+        self.push_spaced(n);
+        self.push(b'\n');
+    }
 
-// A line of a word and a number.
-pub fn write_word_line(text: &mut [u8], at: usize, word: &[u8], n: u32) -> usize
-    requires { at + length (word_line word.now n) ≤ length text.old }
-    ensures { Wrote text.old at (word_line word.now n) text.new result }
-{
-    let word_end = write_word(text, at, word);
-    let number_end = write_spaced(text, word_end, n);
-    write_byte(text, number_end, b'\n')
-}
-
-// The one line of a book that is refused.
-pub fn write_book_refused(text: &mut [u8], at: usize, refusal: u32) -> usize
-    requires { at + length (book_refused refusal) ≤ length text.old }
-    ensures { Wrote text.old at (book_refused refusal) text.new result }
-{
-    write_word_line(text, at, b"book refused", refusal)
+    // The one line of a book that is refused.
+    #[tactic(auto, unfolding(crate::specs::Text::book_refused))]
+    pub fn push_book_refused(&mut self, refusal: u32)
+        requires { HasRoom self.old (book_refused refusal) }
+        ensures { Writes self.old (book_refused refusal) self.new }
+    {
+        self.push_word_line(b"book refused", refusal);
+    }
 }

@@ -1,9 +1,9 @@
 -- A linear function of some numbers to six symbols, by packed digits: each digit of a number adds that many times a row, the packed digits of the
 -- function's values at that place. What is added up stands for the function's values, if no count can pass 127.
--- Main: rows, counts, coefficient_sums, computing_rows, mapped, six_added.
-use Rattle.std.specs.Prelude.{◌≡◌, refl, true, List, [], ◌∷◌, ◌++◌, map}
+-- Main: rows, counts, coefficient_sums, computing_rows, mapped, counts_next, added, added_next, six_tables, added_six.
+use Rattle.std.specs.Prelude.{◌≡◌, refl, true, List, [], ◌∷◌, ◌++◌, map, length}
 use Rattle.std.proofs.Math.Path.{sym, ap, fun_ext}
-use Rattle.std.proofs.Common.{◌∙◌, mod-eq_of_lt, mul-le-mul_right, lit<}
+use Rattle.std.proofs.Common.{◌∙◌, add-one, mod-eq_of_lt, mul-le-mul_right, lit<}
 use Prim.Native.Nat.{ℕ, zero, suc, ◌+◌, ◌*◌, ◌%◌, ◌≤◌, ◌<◌}
 use native.Mathlib.Omega.{arith}
 use Rattle.std.proofs.Math.ListN.{get_or}
@@ -14,7 +14,7 @@ use Rattle.algebra.specs.Digits.{digit, digit_add, digit_scale, digit_zero, digi
 use Rattle.algebra.specs.Combinations.{combine}
 use Rattle.algebra.specs.Linear.{Linear, combination, basis, computing, images, expand}
 use Rattle.algebra.specs.Totals.{total}
-use Rattle.transform.specs.Packed.{bounded, bounded_at, packed, packed_36, no_counts, none_packed, add_row_packed, add_three_rows, add_rows, symbols_of, symbols_packed}
+use Rattle.transform.specs.Packed.{bounded, bounded_at, packed, packed_36, no_counts, none_packed, add_row_packed, add_three_rows, add_rows, length_rows, symbols_of, symbols_packed}
 
 -- THE ROWS of a linear function to six symbols: the 36 digits of its values at each of the basis
 unfoldable pub flat : (v : ℕ → ℕ) → List ℕ
@@ -165,9 +165,34 @@ module _ (f : (s j : ℕ) → ℕ → ℕ) (xs : List ℕ) where
         ∙ symbols_packed (count n 0) (λ i h. omega (arith, bounded_at 63 (coefficient_sums f n 0) t i, count_bound n 0 i))
         ∙ table_same 6 _ _ (λ j h. number_is _ (total_below n 0 _) _ (λ u q. digit_total n 0 j u h q))
 
-  -- six numbers, one after another
-  pub six_added : {a b c d e g : List ℕ} → a ≡ add_rows no_counts (digits (get_or xs 0 0)) (rows (f 0)) → b ≡ add_rows a (digits (get_or xs 1 0)) (rows (f 1))
-      → c ≡ add_rows b (digits (get_or xs 2 0)) (rows (f 2)) → d ≡ add_rows c (digits (get_or xs 3 0)) (rows (f 3))
-      → e ≡ add_rows d (digits (get_or xs 4 0)) (rows (f 4)) → g ≡ add_rows e (digits (get_or xs 5 0)) (rows (f 5)) → g ≡ counts f xs 6
+  -- one number more
+  next_from : (n s p : ℕ) (a : List ℕ) → p ≡ n + s → counts_from f xs (suc n) s a ≡ add_rows (counts_from f xs n s a) (digits (get_or xs p 0)) (rows (f p))
+  unfolding counts_from
+  next_from zero s p a e = let q : p ≡ s = omega arith in rw q refl
+  next_from (suc n) s p a e = next_from n (suc s) p _ (omega arith)
+
+  pub counts_next : (n : ℕ) → counts f xs (suc n) ≡ add_rows (counts f xs n) (digits (get_or xs n 0)) (rows (f n))
+  unfolding counts
+  counts_next n = next_from n 0 n no_counts (omega arith)
+
+  pub length_counts : (n : ℕ) → length (counts f xs n) ≡ 4
   unfolding counts counts_from
-  six_added h i j k l m = rw (m, l, k, j, i, h)
+  length_counts zero = refl
+  length_counts (suc n) = rw (counts_next n) (length_rows _ _ _)
+
+-- THE SAME BY TABLES of rows: what n numbers add, each by the rows of its own table
+unfoldable pub added : (tables : List (List (List ℕ))) → (xs : List ℕ) → (n : ℕ) → List ℕ
+added ts xs zero = no_counts
+added ts xs (suc n) = add_rows (added ts xs n) (digits (get_or xs n 0)) (get_or ts n [])
+
+pub added_next : (ts : List (List (List ℕ))) (xs : List ℕ) (n : ℕ) → added ts xs (n + 1) ≡ add_rows (added ts xs n) (digits (get_or xs n 0)) (get_or ts n [])
+unfolding added
+added_next ts xs n = rw (add-one n) refl
+
+-- the tables of a function of six numbers
+abbrev pub six_tables : (f : (s j : ℕ) → ℕ → ℕ) → List (List (List ℕ))
+six_tables f = rows (f 0) ∷ rows (f 1) ∷ rows (f 2) ∷ rows (f 3) ∷ rows (f 4) ∷ rows (f 5) ∷ []
+
+pub added_six : (f : (s j : ℕ) → ℕ → ℕ) (ts : List (List (List ℕ))) (xs : List ℕ) → ts ≡ six_tables f → added ts xs 6 ≡ counts f xs 6
+unfolding added counts counts_from
+added_six f ts xs e = rw e refl

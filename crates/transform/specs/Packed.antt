@@ -1,6 +1,6 @@
 -- Packed digits: nine counts to a number, in base 128, so that one product and one sum serve nine digits of a linear function's value. The
 -- remainders of the counts by 3 are taken at the end only.
--- Main: bounded, IsRow, AreRows, OfRows, packed_36, add_row, add_rows, add_small_rows, symbols_of, small_as_rows, symbols_packed.
+-- Main: bounded, IsRow, AreRows, AreTables, OfRows, packed_36, add_row, add_rows, add_small_rows, symbols_of, small_as_rows, symbols_packed.
 use Rattle.std.specs.Prelude.{◌≡◌, refl, Bool, true, ◌&&◌, List, [], ◌∷◌, ℕ, zero, suc, ◌+◌, ◌*◌, ◌-◌, ◌/◌, ◌%◌, ◌≤◌, ◌<◌, leb, length, get_or}
 use Rattle.std.proofs.Common.{sym, ap, ap₂, ◌∙◌, mul-le-mul, arith, leb-true, le-leb}
 use Rattle.std.proofs.Math.Nat.{div-div-eq-div-mul}
@@ -25,6 +25,14 @@ IsRow r = bounded 150000000000000000 r ≡ true
 abbrev pub AreRows : List (List ℕ) → Type 0
 AreRows rs = rows_bounded 150000000000000000 rs ≡ true
 
+abbrev pub tables_bounded : (most : ℕ) → List (List (List ℕ)) → Bool
+tables_bounded m [] = true
+tables_bounded m (t ∷ ts) = rows_bounded m t && tables_bounded m ts
+
+-- tables of rows
+abbrev pub AreTables : List (List (List ℕ)) → Type 0
+AreTables ts = tables_bounded 150000000000000000 ts ≡ true
+
 abbrev pub OfRows : (rows : ℕ) → (a : List ℕ) → Type 0
 OfRows n a = bounded (n * 300000000000000000) a ≡ true
 
@@ -37,6 +45,11 @@ pub row_bounded : (m : ℕ) (rs : List (List ℕ)) → rows_bounded m rs ≡ tru
 row_bounded m [] e t = refl
 row_bounded m (r ∷ rs) e zero = (both (bounded m r) _ e).0
 row_bounded m (r ∷ rs) e (suc t) = row_bounded m rs (both (bounded m r) _ e).1 t
+
+pub table_bounded : (m : ℕ) (ts : List (List (List ℕ))) → tables_bounded m ts ≡ true → (t : ℕ) → rows_bounded m (get_or ts t []) ≡ true
+table_bounded m [] e t = refl
+table_bounded m (r ∷ ts) e zero = (both (rows_bounded m r) _ e).0
+table_bounded m (r ∷ ts) e (suc t) = table_bounded m ts (both (rows_bounded m r) _ e).1 t
 
 pub bounded_more : (m n : ℕ) (l : List ℕ) → m ≤ n → bounded m l ≡ true → bounded n l ≡ true
 bounded_more m n [] h e = refl
@@ -111,6 +124,10 @@ unfoldable pub add_rows : (a digits : List ℕ) → (rows : List (List ℕ)) →
 add_rows a d rs =
     add_three_rows (add_three_rows a d (get_or rs 0 []) (get_or rs 1 []) (get_or rs 2 [])) (get_or d 3 0 ∷ get_or d 4 0 ∷ get_or d 5 0 ∷ [])
     (get_or rs 3 []) (get_or rs 4 []) (get_or rs 5 [])
+
+pub length_rows : (a digits : List ℕ) (rows : List (List ℕ)) → length (add_rows a digits rows) ≡ 4
+unfolding add_rows add_three_rows
+length_rows a d rs = length_row _ _ _
 
 -- THE DIGITS OF A SMALL NUMBER, below 27
 unfoldable pub small_digits : ℕ → List ℕ

@@ -1,6 +1,8 @@
 -- Pieces one by one: where the first ends, and the pieces of the rest; and words, which are pieces that are not empty.
 -- Main: ends_next, ends_here, ends_none, ends_within, trimmed_next, trimmed_here, words_none, words_some.
-use Rattle.std.specs.Prelude.{◌≡◌, refl, Bool, true, false, cond, ℕ, suc, ◌+◌, ◌-◌, ◌≤◌, ◌<◌, drop, get_or}
+use Rattle.std.specs.Prelude.{◌≡◌, refl, Bool, true, false, cond, ℕ, suc, ◌+◌, ◌-◌, ◌≤◌, ◌<◌, drop, get_or, not, ltb, Option, Some, None, unwrap_or}
+use Rattle.std.specs.List.{position_from, position_or_len}
+use Rattle.std.proofs.lemmas.Iterator.Adapters.{position_from-zero}
 use Rattle.std.proofs.Math.Path.{sym}
 use Rattle.std.proofs.Common.{ap, ◌∙◌, arith, drop_of_length-le, length-drop, drop-cons, take_all}
 use mathlib.Core.List.{List, [], ◌∷◌}
@@ -31,6 +33,25 @@ ends_within e (b ∷ l) = go (e b) (ends_within e l)
     go : (t : Bool) → ends_at e l ≤ length l → cond t 0 (suc (ends_at e l)) ≤ suc (length l)
     go true h = omega arith
     go false h = omega arith
+
+-- a search for it from the place i on, in what is left, finds it or comes to the end
+ends_from : (e : ℕ → Bool) (i : ℕ) (l : List ℕ) → unwrap_or (position_from e i l) (i + length l) ≡ i + ends_at e l
+unfolding ends_at
+ends_from e i [] = refl
+ends_from e i (b ∷ l) = go (e b) (ends_from e (i + 1) l)
+  where
+    go : (t : Bool) → unwrap_or (position_from e (i + 1) l) (i + 1 + length l) ≡ i + 1 + ends_at e l
+        → unwrap_or (cond t (Some i) (position_from e (i + 1) l)) (i + suc (length l)) ≡ i + cond t 0 (suc (ends_at e l))
+    go true h = omega arith
+    go false h = let s : i + suc (length l) ≡ i + 1 + length l = omega arith in rw s (h ∙ omega arith)
+
+-- what `position` answers
+pub ends_found : (e : ℕ → Bool) (l : List ℕ) (r : Option ℕ)
+    → r ≡ cond (ltb (position_or_len e l) (length l)) (Some (position_or_len e l)) None → unwrap_or r (length l) ≡ ends_at e l
+ends_found e l r h =
+    let z : 0 + length l ≡ length l = omega arith in
+    let n : 0 + ends_at e l ≡ ends_at e l = omega arith in
+    rw (h, position_from-zero e l) (rw (z, n) at (ends_from e 0 l))
 
 -- THE REST: a text that is not empty is its first piece, and the pieces behind the byte that ends it
 pub pieces_next : (e : ℕ → Bool) (b : ℕ) (l : List ℕ)
@@ -65,6 +86,16 @@ module _ (l : List ℕ) (i : ℕ) where
   pub trimmed_none : length l ≤ i → trimmed (drop i l) ≡ drop i l
   unfolding trimmed
   trimmed_none h = rw (drop_of_length-le l h)
+
+pub trimmed_from : (l : List ℕ) → trimmed l ≡ drop (ends_at (λ b. not (blank b)) l) l
+unfolding trimmed ends_at
+trimmed_from [] = refl
+trimmed_from (b ∷ l) = go (blank b) (trimmed_from l)
+  where
+    go : (t : Bool) → trimmed l ≡ drop (ends_at (λ b. not (blank b)) l) l
+        → cond t (trimmed l) (b ∷ l) ≡ drop (cond (not t) 0 (suc (ends_at (λ b. not (blank b)) l))) (b ∷ l)
+    go true h = h
+    go false h = refl
 
 -- the blanks at the beginning are in no word
 words_blank : (b : ℕ) (l : List ℕ) → blank b ≡ true → words (b ∷ l) ≡ words l
@@ -141,3 +172,25 @@ module _ (l : List ℕ) where
           → words t ≡ take (ends_at blank t) t ∷ words (drop (ends_at blank t) t)
       go _ none k = absurd (k no_word)
       go _ (some {b} {l} e) k = words_begin b l e
+
+-- taken one by one, from behind the blanks to the end of a word: the first word, and a rest with the others; or no word, and a rest with none
+module _ (l : List ℕ) {from word rest : List ℕ} {n : ℕ} (f : from ≡ trimmed l) (e : n ≡ ends_at blank from) (w : word ≡ take n from)
+    (r : rest ≡ drop n from) where
+  is_first : word ≡ first_word l
+  unfolding first_word
+  is_first = w ∙ rw (e, f)
+
+  is_after : rest ≡ after_word l
+  unfolding after_word
+  is_after = r ∙ rw (e, f)
+
+  pub words_more : (length word ≡ 0 → ⊥) → words l ≡ word ∷ words rest
+  words_more h = rw (is_first, is_after) (words_some l (rw is_first at h))
+
+  pub words_over : length word ≡ 0 → (words l ≡ []) × (words rest ≡ [])
+  unfolding first_word after_word ends_at
+  words_over h = let k : length (first_word l) ≡ 0 = rw is_first at h in (words_none l k, rw is_after (go (trimmed l) (trimmed_so l) k))
+    where
+      go : (t : List ℕ) → Trimmed t → length (take (ends_at blank t) t) ≡ 0 → words (drop (ends_at blank t) t) ≡ []
+      go _ none k = no_words
+      go _ (some {b} {l} e) k = absurd (begins b l e k)

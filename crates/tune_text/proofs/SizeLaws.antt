@@ -1,6 +1,6 @@
 -- How much a text can say: the lists that are read from it are no longer than it, and its lines are no more than its bytes.
 -- Main: numbers_within, counts_length, counts_within, strikes_within, ahead_fits, mistake_within.
-use Rattle.std.specs.Prelude.{◌≡◌, refl, Bool, true, false, cond, ◌&&◌, ℕ, suc, ◌+◌, ◌*◌, ◌≤◌, ◌<◌, eqb, length, drop, get_or}
+use Rattle.std.specs.Prelude.{◌≡◌, refl, Bool, true, false, cond, ◌&&◌, ℕ, suc, ◌+◌, ◌*◌, ◌≤◌, ◌<◌, eqb, length, drop, get_or, Some}
 use Rattle.std.proofs.Common.{sym, ap, true≢false, length-drop}
 use mathlib.Core.List.{List, [], ◌∷◌, map}
 use native.Mathlib.Omega.{arith}
@@ -11,7 +11,6 @@ use Rattle.tune_text.specs.declared.lines.Fault.TheVariants.{TuneNumber, Unknown
 use Rattle.tune_text.specs.declared.lines.Line.{Line}
 use Rattle.tune_text.specs.declared.lines.Line.TheVariants.{Nothing, Tune, Strike, Wrong}
 use Rattle.tune_text.specs.declared.mistakes.Mistake.{Mistake}
-use Rattle.tune_text.specs.declared.mistakes.Check.TheVariants as check
 use Rattle.tune_text.specs.Words.{onto, pieces, blank, not_empty, words, new_line, lines, is_number, value, same}
 use Rattle.tune_text.specs.Saying.{tune_said, three_numbers, strike_said, words_say, line_of}
 use Rattle.tune_text.specs.Reading.{lines_said, gathered, number_in, strike_in, numbers_of, strikes_of, counts_of, cards_ahead}
@@ -167,7 +166,7 @@ ahead_fits t a h =
     omega (arith, ahead_strikes (lines_said (drop a t)), strikes_within (drop a t), length-drop a t)
 
 -- THE LINE OF A MISTAKE is no more than the bytes of the text
-mistake_line_from : (b : Bool) (n : ℕ) (ls : List Line) (m : Mistake) → mistake_from b n ls ≡ check.Wrong m → m.line < n + length ls
+mistake_line_from : (b : Bool) (n : ℕ) (ls : List Line) (m : Mistake) → mistake_from b n ls ≡ Some m → m.line < n + length ls
 unfolding mistake_from
 mistake_line_from b n [] m e = absurd (let z : ◌≡◌ {A = ℕ} 0 1 = cc in omega arith)
 mistake_line_from b n (Nothing ∷ ls) m e = omega (arith, mistake_line_from b (n + 1) ls m e)
@@ -176,7 +175,11 @@ mistake_line_from false n (Strike s ∷ ls) m e = let q : m.line ≡ n = cc in o
 mistake_line_from true n (Strike s ∷ ls) m e = omega (arith, mistake_line_from true (n + 1) ls m e)
 mistake_line_from b n (Wrong f ∷ ls) m e = let q : m.line ≡ n = cc in omega arith
 
-pub mistake_within : (t : List ℕ) (m : Mistake) → mistake_of (lines_said t) ≡ check.Wrong m → m.line ≤ length t
-unfolding mistake_of lines_said lines
-mistake_within t m e =
-    omega (arith, mistake_line_from false 1 (lines_said t) m e, length-map (lines t) line_of, pieces_count new_line t)
+-- there are no more lines than bytes
+pub said_count : (t : List ℕ) → length (lines_said t) ≤ length t
+unfolding lines_said lines
+said_count t = omega (arith, length-map (lines t) line_of, pieces_count new_line t)
+
+pub mistake_within : (t : List ℕ) (m : Mistake) → mistake_of (lines_said t) ≡ Some m → m.line ≤ length t
+unfolding mistake_of
+mistake_within t m e = omega (arith, mistake_line_from false 1 (lines_said t) m e, said_count t)

@@ -1,8 +1,10 @@
 -- What a line says, found word by word.
 -- Main: tune_more, strike_second, strike_third, strike_more, says_comment, says_tune, says_other.
-use Rattle.std.specs.Prelude.{◌≡◌, true, false, ℕ, length, get_or}
+use Rattle.std.specs.Prelude.{◌≡◌, Bool, true, false, cond, ◌&&◌, ℕ, eqb, length, get_or}
+use Rattle.std.specs.List.{starts_with}
+use lib.Pointwise.{pointwise}
 use Rattle.std.proofs.Math.Path.{refl}
-use Rattle.std.proofs.Common.{sym, ◌∙◌, true≢false}
+use Rattle.std.proofs.Common.{ap, sym, ◌∙◌, true≢false}
 use Rattle.std.proofs.Math.Bool.{and-false}
 use mathlib.Core.List.{List, [], ◌∷◌}
 use Rattle.std.proofs.Math.Decide.{ℕ_discrete}
@@ -118,3 +120,27 @@ module _ (l : List ℕ) where
       pub says_other : same (first_word l) (ascii "tune") ≡ false → line_of l ≡ strike_said (words l)
       unfolding line_of words_say
       says_other e = rw (words_some l s, ne_eqb (get_or (first_word l) 0 0) 35 n, e)
+
+-- by what the code tests of the first word
+same_pointwise : (a b : List ℕ) → same a b ≡ pointwise eqb a b
+unfolding same
+same_pointwise [] [] = refl
+same_pointwise [] (y ∷ b) = refl
+same_pointwise (x ∷ a) [] = refl
+same_pointwise (x ∷ a) (y ∷ b) = ap (λ (t : Bool). eqb x y && t) (same_pointwise a b)
+
+first_hash : (w : List ℕ) → eqb (get_or w 0 0) 35 ≡ starts_with eqb w (35 ∷ [])
+first_hash [] = refl
+first_hash (b ∷ w) = elim (ℕ_discrete b 35) [
+  | yes e ↦ rw (eq-eqb b 35 e, eq-eqb 35 b (sym e))
+  | no n ↦ rw (ne_eqb b 35 n, ne_eqb 35 b (λ e. n (sym e)))
+]
+
+pub says_first : (l w : List ℕ) (ws : List (List ℕ)) → words l ≡ w ∷ ws → line_of l ≡
+    cond (starts_with eqb w (35 ∷ [])) Nothing (cond (pointwise eqb w (ascii "tune")) (tune_said ws) (strike_said (w ∷ ws)))
+unfolding line_of words_say
+says_first l w ws e = rw (e, first_hash w, same_pointwise w (ascii "tune"))
+
+pub says_nothing : (l : List ℕ) → words l ≡ [] → line_of l ≡ Nothing
+unfolding line_of words_say
+says_nothing l e = rw e

@@ -1,9 +1,8 @@
 -- A text that is read, and three with a mistake.
 -- Main: example, example_numbers, example_counts, example_strikes, example_fine, tune_mistake, unknown_mistake, early_mistake, example_line.
-use Rattle.std.specs.Prelude.{◌≡◌, refl, List, [], ◌∷◌, ℕ}
+use Rattle.std.specs.Prelude.{◌≡◌, refl, List, [], ◌∷◌, ℕ, None}
 use Rattle.text.specs.Text.{ascii, decimal, decimal_from, spaced}
 use Rattle.tune_text.specs.declared.lines.Fault.TheVariants.{TuneNumber, Unknown, Early}
-use Rattle.tune_text.specs.declared.mistakes.Check.TheVariants.{Fine}
 use Rattle.tune_text.specs.Words.{onto, pieces, lines, blank, not_empty, words, digit, only_digits, is_number, value, same}
 use Rattle.tune_text.specs.Saying.{tune_said, strike_said, words_say, line_of}
 use Rattle.tune_text.specs.Reading.{lines_said, gathered, numbers_of, strikes_of, cards_ahead, counts_of, at_line, mistake_from, mistake_of}
@@ -34,7 +33,7 @@ pub example_strikes : strikes_of (lines_said example) ≡ 4 ∷ 4 ∷ 25 ∷ 0 �
 unfolding computing
 example_strikes = refl
 
-pub example_fine : mistake_of (lines_said example) ≡ Fine
+pub example_fine : mistake_of (lines_said example) ≡ None
 unfolding computing
 example_fine = refl
 

@@ -5,14 +5,13 @@ use Rattle.tune_text.specs.declared.lines.Fault.{Fault}
 use Rattle.tune_text.specs.declared.lines.Fault.TheVariants.{Early}
 use Rattle.tune_text.specs.declared.lines.Line.{Line}
 use Rattle.tune_text.specs.declared.lines.Line.TheVariants.{Nothing, Tune, Strike, Wrong}
-use Rattle.tune_text.specs.declared.scanning.Here.{Here}
 use Rattle.tune_text.specs.Reading.{lines_said}
 
--- THE LINE HERE was found: the lines from this place on are it and those from the next place on
-pub record Found (t : List ℕ) (at : ℕ) (here : Here) : Type 0 where
-  pub lines : lines_said (drop at t) ≡ here.said ∷ lines_said (drop here.next t)
-  pub after : at < here.next
-  pub within : here.next ≤ length t + 1
+-- THE LINE HERE was found, and says this: the lines from this place on are it and those from the next place on
+pub record Found (t : List ℕ) (at : ℕ) (said : Line) (next : ℕ) : Type 0 where
+  pub lines : lines_said (drop at t) ≡ said ∷ lines_said (drop next t)
+  pub after : at < next
+  pub within : next ≤ length t + 1
 
 -- THE STRIKES AHEAD, line by line
 abbrev pub begins_tune : Line → Bool

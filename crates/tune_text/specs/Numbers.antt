@@ -36,7 +36,7 @@ number_some (b ∷ l) h = refl
 cut_digit : (m v d : ℕ) → min m (10 * min m v + d) ≡ min m (10 * v + d)
 cut_digit m v d = omega arith
 
-cut_before : (m v : ℕ) (l : List ℕ) → min m (value_from (min m v) l) ≡ min m (value_from v l)
+pub cut_before : (m v : ℕ) (l : List ℕ) → min m (value_from (min m v) l) ≡ min m (value_from v l)
 cut_before m v [] = omega arith
 cut_before m v (d ∷ l) =
     sym (cut_before m (10 * min m v + (d - 48)) l)

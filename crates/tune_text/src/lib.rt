@@ -9,6 +9,5 @@ mod tunes;
 mod words;
 
 pub use lines::Fault;
-pub use mistake_lines::{write_mistake, write_too_long};
 pub use mistakes::Mistake;
-pub use tunes::{LONGEST, Sizes, Tunes, read_tunes};
+pub use tunes::{LONGEST, Sizes, Unread, read_tunes};

@@ -1,12 +1,13 @@
 // What a line of the text says.
-ghost use Rattle.std.specs.Prelude.{◌≡◌};
+ghost use Rattle.std.specs.Prelude.{◌≡◌, ◌∷◌};
 ghost use Rattle.tune_text.specs.Words.{words};
 ghost use Rattle.tune_text.specs.Saying.{tune_said, strike_said, line_of};
+ghost use Rattle.tune_text.specs.Lines.{begins_tune};
 
-use crate::words::{after_word, first_word, is_number, is_tune, value};
+use crate::words::{Words, number};
 
 // Why a line is a mistake.
-#[derive(Clone, Copy)]
+#[derive(Clone, Copy, Debug, PartialEq, Eq)]
 pub enum Fault {
     // The word `tune`, and then not one number.
     TuneNumber,
@@ -33,63 +34,53 @@ pub enum Line {
     Wrong(Fault),
 }
 
-// What a line says that begins with the word `tune`, by what follows it.
-fn tune_said(rest: &[u8]) -> Line
-    ensures { result ≡ tune_said (words rest.now) }
-{
-    let number = first_word(rest);
-    if !is_number(number) {
-        return Line::Wrong(Fault::TuneNumber);
+impl Line {
+    // Whether it begins a tune.
+    pub(crate) fn begins_tune(self) -> bool
+        ensures { result ≡ begins_tune self }
+    {
+        matches!(self, Line::Tune(_))
     }
-    let more = first_word(after_word(rest));
-    if more.len() != 0 {
-        return Line::Wrong(Fault::TuneNumber);
-    }
-    Line::Tune(value(number))
 }
 
-// What any other line says.
-fn strike_said(line: &[u8]) -> Line
-    ensures { result ≡ strike_said (words line.now) }
+// What a line says that begins with the word `tune`, by the words that follow.
+#[tactic(auto, unfolding(crate::specs::Saying::tune_said))]
+fn tune_said(mut rest: Words<'_>) -> Line
+    ensures { result ≡ tune_said (words rest.entry.line.now) }
 {
-    let bell = first_word(line);
-    if !is_number(bell) {
-        return Line::Wrong(Fault::Unknown);
+    match (rest.next().and_then(number), rest.next()) {
+        (Some(number), None) => Line::Tune(number),
+        _ => Line::Wrong(Fault::TuneNumber),
     }
-    let second = after_word(line);
-    let force = first_word(second);
-    if !is_number(force) {
-        return Line::Wrong(Fault::Unknown);
+}
+
+// What any other line says, by its first word and the words that follow.
+#[tactic(auto, unfolding(crate::specs::Saying::strike_said))]
+fn strike_said(first: &[u8], mut rest: Words<'_>) -> Line
+    ensures { result ≡ strike_said (first.now ∷ words rest.entry.line.now) }
+{
+    let bell = number(first);
+    let force = rest.next().and_then(number);
+    let delay = rest.next().and_then(number);
+    match (bell, force, delay, rest.next()) {
+        (Some(bell), Some(force), Some(delay), None) => Line::Strike(Numbers {
+            bell,
+            force,
+            delay,
+        }),
+        _ => Line::Wrong(Fault::Unknown),
     }
-    let third = after_word(second);
-    let delay = first_word(third);
-    if !is_number(delay) {
-        return Line::Wrong(Fault::Unknown);
-    }
-    let more = first_word(after_word(third));
-    if more.len() != 0 {
-        return Line::Wrong(Fault::Unknown);
-    }
-    Line::Strike(Numbers {
-        bell: value(bell),
-        force: value(force),
-        delay: value(delay),
-    })
 }
 
 // What a line says. Without words, or with a first word that begins with `#`, it says nothing.
 pub(crate) fn line_of(line: &[u8]) -> Line
     ensures { result ≡ line_of line.now }
 {
-    let word = first_word(line);
-    if word.len() == 0 {
-        return Line::Nothing;
+    let mut words = Words { line };
+    match words.next() {
+        None => Line::Nothing,
+        Some(word) if word.starts_with(b"#") => Line::Nothing,
+        Some(word) if word == b"tune".as_slice() => tune_said(words),
+        Some(word) => strike_said(word, words),
     }
-    if word[0] == b'#' {
-        return Line::Nothing;
-    }
-    if is_tune(word) {
-        return tune_said(after_word(line));
-    }
-    strike_said(line)
 }

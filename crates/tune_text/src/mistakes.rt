@@ -1,79 +1,44 @@
 // The first mistake of a text.
-ghost use Rattle.std.specs.Prelude.{◌≡◌, ◌||◌, ◌≤◌, length};
-ghost use Rattle.tune_text.specs.Reading.{lines_said, mistake_of, longest_text};
-ghost use Rattle.tune_text.specs.Lines.{begins_tune, fits, fault_of};
+ghost use Rattle.std.specs.Prelude.{◌≡◌, Some, None, if◌then◌else◌};
+ghost use Rattle.tune_text.specs.Reading.{lines_said, mistake_of};
+ghost use Rattle.tune_text.specs.Lines.{fits, fault_of};
 
 use crate::lines::{Fault, Line};
-use crate::scanning::{begins_tune, line_here};
+use crate::scanning::Lines;
 
 // The number of a line, counted from 1, and what is wrong with it.
-#[derive(Clone, Copy)]
+#[derive(Clone, Copy, Debug, PartialEq, Eq)]
 pub struct Mistake {
     pub line: u32,
     pub fault: Fault,
 }
 
-// Whether a text has a mistake.
-#[derive(Clone, Copy)]
-pub enum Check {
-    Fine,
-    Wrong(Mistake),
-}
-
-// Whether a line is no mistake, if a tune has begun or not.
-fn fits(begun: bool, said: Line) -> bool
-    ensures { result ≡ fits begun said }
-{
-    match said {
-        Line::Nothing => true,
-        Line::Tune(_) => true,
-        Line::Strike(_) => begun,
-        Line::Wrong(_) => false,
+impl Line {
+    // What is wrong with a line, if a tune has begun before it or not.
+    fn fault(self, begun: bool) -> Option<Fault>
+        ensures { result ≡ (if fits begun self then None else Some (fault_of self)) }
+    {
+        match self {
+            Line::Strike(_) if !begun => Some(Fault::Early),
+            Line::Wrong(fault) => Some(fault),
+            _ => None,
+        }
     }
 }
 
-// What is wrong with a line that does not fit.
-fn fault_of(said: Line) -> Fault
-    ensures { result ≡ fault_of said }
-{
-    match said {
-        Line::Nothing => Fault::Early,
-        Line::Tune(_) => Fault::Early,
-        Line::Strike(_) => Fault::Early,
-        Line::Wrong(f) => f,
-    }
-}
-
-// Whether a tune has begun after a line.
-fn begun_after(begun: bool, said: Line) -> bool
-    ensures { result ≡ begun || begins_tune said }
-{
-    if begun {
-        return true;
-    }
-    begins_tune(said)
-}
-
-// The first mistake of a text, or that there is none.
-pub(crate) fn find_mistake(text: &[u8]) -> Check
-    requires { length text.now ≤ longest_text }
-    ensures { result ≡ mistake_of (lines_said text.now) }
+// The first mistake of a text, if it has one.
+pub(crate) fn find_mistake(lines: Lines<'_>) -> Option<Mistake>
+    ensures { result ≡ mistake_of (lines_said lines.entry.text.now) }
 {
     let mut begun = false;
-    let mut line = 1;
-    let mut at = 0;
-    while at < text.len() {
-        let here = line_here(text, at);
-        let said = here.said;
-        if !fits(begun, said) {
-            return Check::Wrong(Mistake {
-                line: line,
-                fault: fault_of(said),
+    for (i, line) in lines.enumerate() {
+        if let Some(fault) = line.fault(begun) {
+            return Some(Mistake {
+                line: i as u32 + 1,
+                fault,
             });
         }
-        begun = begun_after(begun, said);
-        line += 1;
-        at = here.next;
+        begun |= line.begins_tune();
     }
-    Check::Fine
+    None
 }

@@ -1,110 +1,57 @@
 // The operation: a text tested, and the lists of its tunes.
-ghost use Rattle.std.specs.Prelude.{◌≡◌, ◌+◌, ◌≤◌, length, drop};
-ghost use Rattle.text.specs.Text.{written};
-ghost use Rattle.text.specs.Writing.{Wrote};
-ghost use Rattle.tune_text.specs.Reading.{lines_said, number_in, strike_in, count_in, numbers_of, strikes_of, counts_of};
-ghost use Rattle.tune_text.specs.Reading.{longest_text, tunes_of, when_read};
+ghost use Rattle.std.specs.Prelude.{◌≡◌};
+ghost use Rattle.text.specs.Writing.{HasRoom, Writes};
+ghost use Rattle.tune_text.specs.Reading.{lines_said, numbers_of, strikes_of, counts_of, tunes_of, when_read};
 
 use crate::lines::Line;
-use crate::mistakes::{Check, Mistake, find_mistake};
-use crate::scanning::{cards_ahead, line_here};
+use crate::mistakes::{Mistake, find_mistake};
+use crate::scanning::Lines;
 use refusal::Refusal;
+use text::Lent;
 
 // A text of more bytes is not read.
 pub const LONGEST: usize = 131072;
 
 // How many tunes there are, and how many numbers their strikes have.
-#[derive(Clone, Copy)]
+#[derive(Clone, Copy, Debug, PartialEq, Eq)]
 pub struct Sizes {
     pub tunes: usize,
     pub strikes: usize,
 }
 
-// The answer: that the text is too long, that a list is too short, the first mistake, or what was read.
-#[derive(Clone, Copy)]
-pub enum Tunes {
+// Why a text is not read: it is too long, a list is too short, or it has a mistake, of which this is the first.
+#[derive(Clone, Copy, Debug, PartialEq, Eq)]
+pub enum Unread {
     TooLong,
     Refused(Refusal),
     Wrong(Mistake),
-    Read(Sizes),
 }
 
-// The number of a tune's line. The answer is the next place, here and in the two that follow.
-fn put_number(said: Line, numbers: &mut [u16], at: usize) -> usize
-    requires { at + length (number_in said) ≤ length numbers.old }
-    ensures { Wrote numbers.old at (number_in said) numbers.new result }
+// What the lines add to each list. A tune's count looks ahead in the lines that are left, so they are taken one by one.
+fn fill(
+    mut lines: Lines<'_>,
+    numbers: &mut Lent<'_, u16>,
+    counts: &mut Lent<'_, u16>,
+    strikes: &mut Lent<'_, u16>,
+)
+    requires numbers_room { HasRoom numbers.old (numbers_of (lines_said lines.text.now)) }
+    requires counts_room { HasRoom counts.old (counts_of (lines_said lines.text.now)) }
+    requires strikes_room { HasRoom strikes.old (strikes_of (lines_said lines.text.now)) }
+    ensures numbers_wrote { Writes numbers.old (numbers_of (lines_said lines.entry.text.now)) numbers.new }
+    ensures counts_wrote { Writes counts.old (counts_of (lines_said lines.entry.text.now)) counts.new }
+    ensures strikes_wrote { Writes strikes.old (strikes_of (lines_said lines.entry.text.now)) strikes.new }
 {
-    match said {
-        Line::Nothing => at,
-        Line::Tune(n) => {
-            numbers[at] = n;
-            at + 1
-        },
-        Line::Strike(_) => at,
-        Line::Wrong(_) => at,
-    }
-}
-
-// How many strikes follow a tune's line, which ends before `next`.
-fn put_count(text: &[u8], next: usize, said: Line, counts: &mut [u16], at: usize) -> usize
-    requires text_fits { length text.now ≤ longest_text }
-    requires room { at + length (count_in said (lines_said (drop next text.now))) ≤ length counts.old }
-    ensures { Wrote counts.old at (count_in said (lines_said (drop next text.now))) counts.new result }
-{
-    match said {
-        Line::Nothing => at,
-        Line::Tune(_) => {
-            counts[at] = cards_ahead(text, next);
-            at + 1
-        },
-        Line::Strike(_) => at,
-        Line::Wrong(_) => at,
-    }
-}
-
-// The three numbers of a strike.
-fn put_strike(said: Line, strikes: &mut [u16], at: usize) -> usize
-    requires { at + length (strike_in said) ≤ length strikes.old }
-    ensures { Wrote strikes.old at (strike_in said) strikes.new result }
-{
-    match said {
-        Line::Nothing => at,
-        Line::Tune(_) => at,
-        Line::Strike(s) => {
-            strikes[at] = s.bell;
-            strikes[at + 1] = s.force;
-            strikes[at + 2] = s.delay;
-            at + 3
-        },
-        Line::Wrong(_) => at,
-    }
-}
-
-// The lists of a text, each from its start.
-fn fill(text: &[u8], numbers: &mut [u16], counts: &mut [u16], strikes: &mut [u16]) -> Sizes
-    requires text_fits { length text.now ≤ longest_text }
-    requires numbers_room { length text.now ≤ length numbers.old }
-    requires counts_room { length text.now ≤ length counts.old }
-    requires strikes_room { length text.now ≤ length strikes.old }
-    ensures numbers_wrote { Wrote numbers.old 0 (numbers_of (lines_said text.now)) numbers.new result.tunes }
-    ensures counts_after { counts.new ≡ written counts.old 0 (counts_of (lines_said text.now)) }
-    ensures strikes_wrote { Wrote strikes.old 0 (strikes_of (lines_said text.now)) strikes.new result.strikes }
-{
-    let mut tunes = 0;
-    let mut counted = 0;
-    let mut used = 0;
-    let mut at = 0;
-    while at < text.len() {
-        let here = line_here(text, at);
-        let line = here.said;
-        at = here.next;
-        tunes = put_number(line, numbers, tunes);
-        counted = put_count(text, at, line, counts, counted);
-        used = put_strike(line, strikes, used);
-    }
-    Sizes {
-        tunes: tunes,
-        strikes: used,
+    while let Some(line) = lines.next() {
+        match line {
+            Line::Tune(number) => {
+                numbers.push(number);
+                counts.push(lines.cards_ahead());
+            }
+            Line::Strike(strike) => {
+                strikes.extend_from_slice(&[strike.bell, strike.force, strike.delay]);
+            }
+            Line::Nothing | Line::Wrong(_) => {}
+        }
     }
 }
 
@@ -115,26 +62,28 @@ pub fn read_tunes(
     numbers: &mut [u16],
     counts: &mut [u16],
     strikes: &mut [u16],
-) -> Tunes
+) -> Result<Sizes, Unread>
     ensures value { result ≡ tunes_of text.now numbers.old counts.old strikes.old }
     ensures numbers_after { numbers.new ≡ when_read result numbers.old (numbers_of (lines_said text.now)) }
     ensures counts_after { counts.new ≡ when_read result counts.old (counts_of (lines_said text.now)) }
     ensures strikes_after { strikes.new ≡ when_read result strikes.old (strikes_of (lines_said text.now)) }
 {
     if LONGEST < text.len() {
-        return Tunes::TooLong;
+        return Err(Unread::TooLong);
     }
-    if numbers.len() < text.len() {
-        return Tunes::Refused(Refusal::Length);
+    if numbers.len().min(counts.len()).min(strikes.len()) < text.len() {
+        return Err(Unread::Refused(Refusal::Length));
     }
-    if counts.len() < text.len() {
-        return Tunes::Refused(Refusal::Length);
+    let lines = Lines { text };
+    if let Some(mistake) = find_mistake(lines) {
+        return Err(Unread::Wrong(mistake));
     }
-    if strikes.len() < text.len() {
-        return Tunes::Refused(Refusal::Length);
-    }
-    match find_mistake(text) {
-        Check::Wrong(mistake) => Tunes::Wrong(mistake),
-        Check::Fine => Tunes::Read(fill(text, numbers, counts, strikes)),
-    }
+    let mut numbers = Lent::new(numbers);
+    let mut counts = Lent::new(counts);
+    let mut strikes = Lent::new(strikes);
+    fill(lines, &mut numbers, &mut counts, &mut strikes);
+    Ok(Sizes {
+        tunes: numbers.at,
+        strikes: strikes.at,
+    })
 }

@@ -1,14 +1,13 @@
 -- The wear of cards, of runs of cards, and the run with the most (SPECIFICATION 8.23; document 02: P7).
 -- Main: reading_wear, card_wear, run_sum, runs_in, largest, first_largest, worst_run, width_bad, wear_refusal, wear_reply.
-use Rattle.std.specs.Prelude.{Bool, ◌||◌, cond, List, ℕ, zero, suc, ◌+◌, ◌-◌, ltb, eqb}
+use Rattle.std.specs.Prelude.{Bool, ◌||◌, cond, List, ℕ, zero, suc, ◌+◌, ◌-◌, ltb, eqb, Result}
 use Rattle.algebra.specs.Search.{first_from, or_zero}
-use Rattle.refusal.specs.Replies.{number, Reply, replied, refused_with}
+use Rattle.refusal.specs.Replies.{number, Reply, reply_or}
+use Rattle.refusal.specs.declared.Refusal.{Refusal}
 use Rattle.refusal.specs.declared.Refusal.TheVariants.{Length, Width}
 use Rattle.book.specs.Layout.{body_good}
 use Rattle.book.specs.Reading.{CardValue, cards_in, reading}
 use Rattle.wear.specs.declared.runs.Run.{Run}
-use Rattle.wear.specs.declared.runs.Wear.{Wear}
-use Rattle.wear.specs.declared.runs.Wear.TheVariants as wears
 
 -- A CARD wears by the rank of its damage, or by 3 if Read refuses it
 unfoldable pub reading_wear : Reply CardValue → ℕ
@@ -51,6 +50,5 @@ wear_refusal bs w = cond (body_good bs) (cond (width_bad bs w) (number Width) 0)
 abbrev pub no_run : Run
 no_run = record { sum = 0; first = 0 }
 
-abbrev pub wear_reply : Wear → Reply Run
-wear_reply (wears.Run r) = replied r
-wear_reply (wears.Refused x) = refused_with no_run (number x)
+abbrev pub wear_reply : Result Run Refusal → Reply Run
+wear_reply r = reply_or no_run r

@@ -1,7 +1,7 @@
 -- The worst run of a body: no run of the width has a larger sum, and none before it has the same. From what was tested to what is answered.
--- Main: wear_bounded, wear_strike, wear_refused; Worst, worst_is; Seeking, seeking_start, seeking_short, seeking_next, seeking_end; fits, body_refused,
--- width_refused, run_given.
-use Rattle.std.specs.Prelude.{◌≡◌, refl, Bool, true, false, ◌||◌, cond, List, ℕ, ◌+◌, ◌-◌, ◌%◌, ◌≤◌, ◌<◌, eqb, get_or, set}
+-- Main: wear_bounded, wear_strike, wear_refused, read_wears; Worst, worst_is; Seeking, seeking_start, seeking_short, seeking_next, seeking_end; fits, body_refused,
+-- width_refused, run_given, answers.
+use Rattle.std.specs.Prelude.{◌≡◌, refl, Bool, true, false, ◌||◌, cond, List, ℕ, ◌+◌, ◌-◌, ◌%◌, ◌≤◌, ◌<◌, eqb, get_or, set, Result, Ok, Err}
 use Rattle.std.proofs.Common.{ap, ◌∙◌, arith}
 use Rattle.std.proofs.Math.Dec.{ltb}
 use borrow.Author.Tests.{eqb-false, ltb-false}
@@ -9,11 +9,9 @@ use Rattle.algebra.specs.Tests.{neither}
 use Rattle.refusal.specs.Replies.{number, number_not_zero, Reply, replied, refused_with, reply_with}
 use Rattle.refusal.specs.declared.Refusal.{Refusal}
 use Rattle.refusal.specs.declared.Refusal.TheVariants.{Length, Width}
-use Rattle.rank.specs.declared.Weight.{Weight}
-use Rattle.strike.specs.declared.Strike.{Strike}
 use Rattle.book.specs.declared.reading.Reading.{Reading}
-use Rattle.book.specs.declared.reading.Reading.TheVariants as readings
 use Rattle.book.specs.Layout.{body_good}
+use Rattle.book.specs.Bodies as bodies
 use Rattle.book.specs.Reading.{CardValue, read_reply, cards_in, reading}
 use Rattle.book.specs.Bounds.{good_length, reading_bounded}
 use Rattle.wear.specs.declared.runs.Run.{Run}
@@ -22,13 +20,16 @@ use Rattle.wear.specs.Largest.{FirstLargest, largest_first, first_only, first_st
 use Rattle.wear.specs.Sliding.{Fits, Keeps, keeps_moved}
 
 -- A CARD by its reading: the rank of a strike's damage, 3 for a refusal; never more than 6
-pub wear_strike : (r : Reading) (s : Strike) (d : Weight) → r ≡ readings.Strike s d → d.rank ≡ reading_wear (read_reply r)
+pub wear_strike : (r : Result Reading Refusal) (c : Reading) → r ≡ Ok c → c.damage.rank ≡ reading_wear (read_reply r)
 unfolding reading_wear
-wear_strike r s d e = rw e
+wear_strike r c e = rw e
 
-pub wear_refused : (r : Reading) (why : Refusal) → r ≡ readings.Refused why → 3 ≡ reading_wear (read_reply r)
+pub wear_refused : (r : Result Reading Refusal) (why : Refusal) → r ≡ Err why → 3 ≡ reading_wear (read_reply r)
 unfolding reading_wear
 wear_refused r why e = rw (e, number_not_zero why)
+
+-- the wear of what was read, in either case
+pub ruleset read_wears = (wear_strike, wear_refused)
 
 pub wear_bounded : (bs : List ℕ) (n : ℕ) → card_wear bs n ≤ 6
 unfolding card_wear reading_wear
@@ -116,3 +117,6 @@ module _ (bs : List ℕ) (w : ℕ) where
   pub run_given : body_good bs ≡ true → width_bad bs w ≡ false → replied (worst_run bs w) ≡ reply_with no_run (wear_refusal bs w) (worst_run bs w)
   unfolding wear_refusal reply_with
   run_given g e = rw (g, e)
+
+-- what is answered
+pub ruleset answers = (bodies.body_refused, body_refused, width_refused, run_given)

@@ -5,4 +5,4 @@
 mod runs;
 mod sliding;
 
-pub use runs::{Run, Wear, worst_run};
+pub use runs::{Run, worst_run};

@@ -1,6 +1,6 @@
 -- Which line a tune of an accepted book has, by what `worst_run` answers; and how long it is.
 -- Main: short_is, run_is; line_run, line_short; wear_line_short.
-use Rattle.std.specs.Prelude.{◌≡◌, List, ℕ, ◌+◌, ◌≤◌, ◌<◌, length}
+use Rattle.std.specs.Prelude.{◌≡◌, List, ℕ, ◌+◌, ◌≤◌, ◌<◌, length, Result, Ok, Err}
 use Rattle.std.proofs.Common.{sym, ◌∙◌, ap, arith, length-append}
 use Rattle.std.proofs.Math.Decide.{dec_lt}
 use borrow.Author.Tests.{lt-ltb, le-ltb}
@@ -13,8 +13,6 @@ use Rattle.book.specs.Accepted.{AcceptedEntry}
 use Rattle.book.proofs.Accepted.{part_length, part_good, number_range}
 use Rattle.book.specs.Bounds.{good_length}
 use Rattle.wear.specs.declared.runs.Run.{Run}
-use Rattle.wear.specs.declared.runs.Wear.{Wear}
-use Rattle.wear.specs.declared.runs.Wear.TheVariants as wears
 use Rattle.wear.specs.Wear.{card_wear, worst_run, width_bad, wear_refusal, no_run, wear_reply}
 use Rattle.wear.specs.Sliding.{run_bounded}
 use Rattle.wear.specs.Worst.{wear_bounded, worst_is}
@@ -55,8 +53,8 @@ module _ (bs : List ℕ) (e : ℕ) (h : AcceptedEntry bs e) where
   accepts l = rw (part_good bs h.0 e h.1, cards_part, le-ltb (cards bs e) width l)
 
   -- so the answer tells which line it is
-  module _ (r : Wear) (a : wear_reply r ≡ reply_with no_run (wear_refusal (part_of bs e) width) (worst_run (part_of bs e) width)) where
-    pub line_run : (x : Run) → r ≡ wears.Run x → wear_line bs e ≡ run_line (tune_number bs e) x
+  module _ (r : Result Run Refusal) (a : wear_reply r ≡ reply_with no_run (wear_refusal (part_of bs e) width) (worst_run (part_of bs e) width)) where
+    pub line_run : (x : Run) → r ≡ Ok x → wear_line bs e ≡ run_line (tune_number bs e) x
     line_run x p =
         let (z, v) = reply_value no_run (wear_refusal (part_of bs e) width) (worst_run (part_of bs e) width) x (rw p at a) in
         elim (dec_lt (cards bs e) width) [
@@ -64,7 +62,7 @@ module _ (bs : List ℕ) (e : ℕ) (h : AcceptedEntry bs e) where
           | no m ↦ run_is bs e (omega arith) ∙ ap (run_line (tune_number bs e)) (sym v)
         ]
 
-    pub line_short : (why : Refusal) → r ≡ wears.Refused why → wear_line bs e ≡ short_line (tune_number bs e)
+    pub line_short : (why : Refusal) → r ≡ Err why → wear_line bs e ≡ short_line (tune_number bs e)
     line_short why p =
         let f = reply_refused no_run (wear_refusal (part_of bs e) width) (worst_run (part_of bs e) width) why (rw p at a) in
         elim (dec_lt (cards bs e) width) [ yes l ↦ short_is bs e l | no m ↦ absurd (f.1 (accepts (omega arith))) ]

@@ -1,47 +1,46 @@
 // What a wear report says of a tune: where wear gathers most in it, in one line (SPECIFICATION 9.3), written into a list that the caller lends.
 #![tactic(auto)]
 
-ghost use Rattle.std.specs.Prelude.{◌+◌, ◌≤◌, length};
-ghost use Rattle.book.specs.Accepted.{AcceptedEntry};
-ghost use Rattle.text.specs.Writing.{Wrote};
+ghost use Rattle.text.specs.Writing.{HasRoom, Writes};
 ghost use Rattle.wear_lines.specs.WearLines.{run_line, short_line, wear_line};
 
-use text::{write_byte, write_decimal, write_spaced, write_word};
-use wear::{Run, Wear};
+use book::Entry;
+use text::Lent;
+use wear::Run;
 
 // How many cards in a row are taken together.
 const WIDTH: u32 = 8;
 
 // The line of a tune: tune number, sum, first card.
-fn write_run(text: &mut [u8], at: usize, number: u32, run: Run) -> usize
-    requires { at + length (run_line number run) ≤ length text.old }
-    ensures { Wrote text.old at (run_line number run) text.new result }
+#[tactic(auto, using(text::proofs::WritingLaws::writing), unfolding(crate::specs::WearLines::run_line))]
+fn push_run(text: &mut Lent<'_, u8>, number: u32, run: Run)
+    requires { HasRoom text.old (run_line number run) }
+    ensures { Writes text.old (run_line number run) text.new }
 {
-    let number_end = write_decimal(text, at, number);
-    let sum_end = write_spaced(text, number_end, run.sum);
-    let first_end = write_spaced(text, sum_end, run.first);
-    write_byte(text, first_end, b'\n')
+    text.push_decimal(number);
+    text.push_spaced(run.sum);
+    text.push_spaced(run.first);
+    text.push(b'\n');
 }
 
 // The line of a tune with fewer cards.
-fn write_short(text: &mut [u8], at: usize, number: u32) -> usize
-    requires { at + length (short_line number) ≤ length text.old }
-    ensures { Wrote text.old at (short_line number) text.new result }
+#[tactic(auto, using(text::proofs::WritingLaws::writing), unfolding(crate::specs::WearLines::short_line))]
+fn push_short(text: &mut Lent<'_, u8>, number: u32)
+    requires { HasRoom text.old (short_line number) }
+    ensures { Writes text.old (short_line number) text.new }
 {
-    let number_end = write_decimal(text, at, number);
-    write_word(text, number_end, b" short\n")
+    text.push_decimal(number);
+    text.extend_from_slice(b" short\n");
 }
 
-// The line of the tune of entry `e` of an accepted book.
-pub fn write_tune(book: &[u8], e: usize, text: &mut [u8], at: usize) -> usize
-    requires accepted { AcceptedEntry book.now e }
-    requires room { at + length (wear_line book.now e) ≤ length text.old }
-    ensures { Wrote text.old at (wear_line book.now e) text.new result }
+// The line of the tune of an entry.
+pub fn write_tune(entry: &Entry<'_>, text: &mut Lent<'_, u8>)
+    requires { HasRoom text.old (wear_line entry.now.book.now entry.now.place) }
+    ensures { Writes text.old (wear_line entry.now.book.now entry.now.place) text.new }
 {
-    let tune = book::entry_at(book, e);
-    let number = tune.number;
-    match wear::worst_run(book::body_at(book, e), WIDTH) {
-        Wear::Run(run) => write_run(text, at, number, run),
-        Wear::Refused(_) => write_short(text, at, number),
+    let number = entry.tune().number;
+    match wear::worst_run(entry.body().bytes, WIDTH) {
+        Ok(run) => push_run(text, number, run),
+        Err(_) => push_short(text, number),
     }
 }

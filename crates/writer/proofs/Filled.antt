@@ -1,123 +1,147 @@
 -- A book filled as the code does it: bytes stored one after another, what each loop has written so far, and the whole.
--- Main: wrote_two, passed, whole_fits, written_done.
-use Rattle.std.specs.Prelude.{◌≡◌, refl, true, false, List, [], ◌∷◌, ◌++◌, ℕ, ◌+◌, ◌*◌, ◌/◌, ◌%◌, ◌≤◌, ◌<◌, length, get_or, drop, set}
-use Rattle.std.proofs.Common.{sym, ◌∙◌, ap, arith, length-set}
-use Rattle.algebra.specs.Lists.{All}
-use Rattle.refusal.specs.Replies.{outcome, unless_refused, unless_done, refused_number, no_refusal}
-use Rattle.refusal.specs.declared.Outcome.{Outcome}
-use Rattle.refusal.specs.declared.Outcome.TheVariants as outcomes
+-- Main: two_is, four_is; symbols_at, symbols_end; count_room, entries_start, entries_room, entries_next, entries_end; cards_room, cards_good,
+-- cards_next, cards_end; written_refused, whole_fits, written_done.
+use Rattle.std.specs.Prelude.{◌≡◌, refl, true, List, [], ◌∷◌, ◌++◌, ℕ, ◌+◌, ◌*◌, ◌≤◌, ◌<◌, length, get_or, drop, Ok, Err}
+use Rattle.std.specs.Int.{w16, w32, to_be_bytes}
+use Rattle.std.proofs.Common.{sym, ◌∙◌, ap, arith, add-one, drop-cons, drop_of_length-le}
+use Rattle.std.proofs.lemmas.List.{nil_from_length}
+use Rattle.algebra.specs.Lists.{All, cons}
+use Rattle.text.specs.declared.lent.Lent.{Lent}
+use Rattle.text.specs.Writing.{HasRoom, Writes}
+use Rattle.text.proofs.WritingLaws.{part_start, part_room, part_next, part_end, wrote_whole}
+use Rattle.refusal.specs.Replies.{number, number_not_zero, unless_refused, unless_done}
 use Rattle.refusal.specs.declared.Refusal.{Refusal}
-use Rattle.rank.specs.Arrays.{six}
 use Rattle.strike.specs.declared.Strike.{Strike}
 use Rattle.strike.specs.Strikes.{in_range}
-use Rattle.strike.specs.Turns.{strikes_bad, strikes, strikes_at, strikes_end, strikes_range}
-use Rattle.book.specs.Layout.{two_bytes, contents_end, entry_bytes, symbols_bytes}
-use Rattle.text.specs.Writing.{Wrote}
-use Rattle.text.proofs.WritingLaws.{wrote_byte, wrote_then, wrote_whole, partway_start, partway_room, partway_next, partway_end}
-use Rattle.writer.specs.Writing.{card_bytes, cards_bytes, entries_bytes, book_bytes, book_length, write_refusal, Written}
-use Rattle.writer.specs.Layouts.{length_entry, length_card, length_book, entries_at, entries_end}
-use Rattle.writer.specs.Writable.{Writable}
+use Rattle.strike.specs.Turns.{strikes, strikes_end}
+use Rattle.book.specs.Layout.{contents_end, two_bytes, four_bytes, entry_bytes, symbols_bytes}
+use Rattle.writer.specs.Writing.{all_cards, card_bytes, cards_bytes, entries_bytes, contents_bytes, book_bytes, book_length, write_refusal, Written}
+use Rattle.writer.specs.Layouts.{length_book}
 use Rattle.writer.proofs.Writable.{writable}
-use Rattle.writer.proofs.Tested.{all_cards_next}
-use Rattle.writer.specs.Filled.{EntriesSoFar, CardsSoFar, strike_at}
+use Rattle.writer.specs.declared.tests.Lists.{Lists}
+use Rattle.writer.specs.Filled.{EntriesSoFar, CardsSoFar}
 
--- BYTES one after another: a number's
-pub wrote_two : (old : List ℕ) (a n : ℕ) → a + 2 ≤ length old → Wrote old a (two_bytes n) (set (set old a (n / 256)) (a + 1) (n % 256)) (a + 2)
+-- BYTES of a number, as the library has them
+pub two_is : (n : ℕ) → n < 65536 → to_be_bytes w16 n ≡ two_bytes n
 unfolding two_bytes
-wrote_two old a n h =
-    let e : a + 1 + 1 ≡ a + 2 = omega arith in
-    let l : a + 1 < length (set old a (n / 256)) = simp length-set (omega arith) in
-    rw e at (wrote_then (wrote_byte old a (n / 256) (omega arith)) (wrote_byte (set old a (n / 256)) (a + 1) (n % 256) l))
+two_is n h = cons (omega arith) refl
 
--- those of six symbols
-module _ {o p q r s t u : List ℕ} {a b c d e f g : ℕ} where
-  wrote_each : (x y z k m n : ℕ) → Wrote o a (two_bytes x) p b → Wrote p b (two_bytes y) q c → Wrote q c (two_bytes z) r d → Wrote r d (two_bytes k) s e
-      → Wrote s e (two_bytes m) t f → Wrote t f (two_bytes n) u g → Wrote o a (symbols_bytes (x ∷ y ∷ z ∷ k ∷ m ∷ n ∷ [])) u g
-  unfolding symbols_bytes two_bytes
-  wrote_each x y z k m n h i j v w l = wrote_then h (wrote_then i (wrote_then j (wrote_then v (wrote_then w l))))
+pub four_is : (n : ℕ) → n < 4294967296 → to_be_bytes w32 n ≡ four_bytes n
+unfolding four_bytes two_bytes
+four_is n h = cons (omega arith) (cons (omega arith) (cons (omega arith) (cons (omega arith) refl)))
 
-  pub wrote_six : (w : List ℕ) → length w ≡ 6 → Wrote o a (two_bytes (get_or w 0 0)) p b → Wrote p b (two_bytes (get_or w 1 0)) q c
-      → Wrote q c (two_bytes (get_or w 2 0)) r d → Wrote r d (two_bytes (get_or w 3 0)) s e → Wrote s e (two_bytes (get_or w 4 0)) t f
-      → Wrote t f (two_bytes (get_or w 5 0)) u g → Wrote o a (symbols_bytes w) u g
-  wrote_six w l h i j k m n = rw (six w l) at (wrote_each _ _ _ _ _ _ h i j k m n)
+-- SYMBOLS from symbol i on
+module _ (w : List ℕ) (i : ℕ) where
+  pub symbols_at : i < length w → symbols_bytes (drop i w) ≡ two_bytes (get_or w i 0) ++ symbols_bytes (drop (i + 1) w)
+  unfolding symbols_bytes
+  symbols_at h = rw (add-one i, drop-cons w i 0 h)
 
-module _ (ns cs old : List ℕ) (a : ℕ) (paired : length cs ≡ length ns) where
-  pub entries_start : a ≤ length old → EntriesSoFar ns cs old a old a (2 + 8 * length ns) 0
+  pub symbols_end : length w ≤ i → symbols_bytes (drop i w) ≡ []
+  unfolding symbols_bytes
+  symbols_end h = rw (drop_of_length-le w h)
+
+-- THE CONTENTS: the count of tunes, and then the entries, all of which are left
+module _ (l : Lists) (bytes : List ℕ) (b : bytes ≡ to_be_bytes w16 (length l.numbers.now)) where
+  few : length l.numbers.now < 65536
   unfolding book_length
-  entries_start h = record { within = omega arith; ends = omega (arith, paired); partway = partway_start old a _ h }
+  few = let f = l.book_fits in let e = l.same_length in omega arith
 
-  module _ {new : List ℕ} {next start e : ℕ} (s : EntriesSoFar ns cs old a new next start e) where
-    -- a body begins within the book, and so does the one after it
-    pub start_within : start ≤ book_length cs
-    start_within = omega (arith, s.ends)
+  count_first : contents_bytes l.numbers.now l.counts.now ≡ bytes ++ entries_bytes l.numbers.now l.counts.now (contents_end (length l.numbers.now))
+  unfolding contents_bytes
+  count_first = rw (b ∙ two_is (length l.numbers.now) few)
 
-    pub next_within : e < length ns → start + 12 * get_or cs e 0 ≤ book_length cs
-    next_within h = omega (arith, s.ends, all_cards_next cs e (omega arith))
+  module _ (old : Lent ℕ) (h : HasRoom old (contents_bytes l.numbers.now l.counts.now)) where
+    pub count_room : HasRoom old bytes
+    count_room = part_room (part_start old _ (omega arith)) bytes _ count_first h
 
-    -- the next entry has room
-    pub entries_room : a + length (entries_bytes ns cs (contents_end (length ns))) ≤ length old → e < length ns → next + 8 ≤ length new
-    entries_room r h =
-        let x = entry_bytes (get_or ns e 0) start (get_or cs e 0) in
-        omega (arith, length_entry (get_or ns e 0) start (get_or cs e 0), partway_room s.partway x _ (entries_at ns cs e start h (omega arith)) r)
-
-    pub entries_next : {mid : List ℕ} {b : ℕ} → e < length ns → Wrote new next (entry_bytes (get_or ns e 0) start (get_or cs e 0)) mid b
-        → EntriesSoFar ns cs old a mid b (start + 12 * get_or cs e 0) (e + 1)
-    entries_next h w = record {
-      within = omega arith;
-      ends = omega (arith, s.ends, all_cards_next cs e (omega arith));
-      partway = partway_next s.partway _ _ (entries_at ns cs e start h (omega arith)) w;
+    pub entries_start : {new : Lent ℕ} → Writes old bytes new
+        → EntriesSoFar (contents_bytes l.numbers.now l.counts.now) l.numbers.now l.counts.now (contents_end (length l.numbers.now)) (book_length l.counts.now) old new
+    unfolding book_length
+    entries_start w = record {
+      paired = l.same_length;
+      ends = let e = l.same_length in omega arith;
+      parts = part_next (part_start old _ (omega arith)) bytes _ count_first w;
     }
 
-    pub entries_done : length ns ≤ e → Wrote old a (entries_bytes ns cs (contents_end (length ns))) new next
-    entries_done h = partway_end s.partway (entries_end ns cs e start h)
+-- ENTRIES: those of the numbers ns and the counts cs are left
+module _ {whole ns cs : List ℕ} {start size : ℕ} {old new : Lent ℕ} (s : EntriesSoFar whole ns cs start size old new) where
+  -- the next one
+  module _ {n c : ℕ} {ms ds : List ℕ} (e : ns ≡ n ∷ ms) (f : cs ≡ c ∷ ds) where
+    entries_first : entries_bytes ns cs start ≡ entry_bytes n start c ++ entries_bytes ms ds (start + 12 * c)
+    unfolding entries_bytes
+    entries_first = rw (e, f)
 
-cards_more : (s : Strike) (ss : List Strike) → cards_bytes (s ∷ ss) ≡ card_bytes s ++ cards_bytes ss
-unfolding cards_bytes
-cards_more s ss = refl
+    counts_first : all_cards cs ≡ c + all_cards ds
+    unfolding all_cards
+    counts_first = rw f
 
-cards_none : cards_bytes [] ≡ []
-unfolding cards_bytes
-cards_none = refl
+    pub entries_room : HasRoom old whole → HasRoom new (entry_bytes n start c)
+    entries_room h = part_room s.parts _ _ entries_first h
 
-module _ (ss old : List ℕ) (a : ℕ) where
-  pub cards_start : strikes_bad ss ≡ false → a ≤ length old → CardsSoFar ss old a old a 0
-  cards_start e h = record { within = omega arith; ranged = strikes_range ss e; partway = partway_start old a _ h }
+    pub entries_within : start + 12 * c ≤ size
+    entries_within = omega (arith, counts_first, s.ends)
 
-  module _ {new : List ℕ} {next i : ℕ} (c : CardsSoFar ss old a new next i) where
-    module _ (h : i + 2 < length ss) where
-      cards_at : cards_bytes (strikes (drop i ss)) ≡ card_bytes (strike_at ss i) ++ cards_bytes (strikes (drop (i + 3) ss))
-      cards_at = ap cards_bytes (strikes_at ss i h) ∙ cards_more (strike_at ss i) (strikes (drop (i + 3) ss))
+    pub entries_next : {mid : Lent ℕ} → Writes new (entry_bytes n start c) mid → EntriesSoFar whole ms ds (start + 12 * c) size old mid
+    entries_next w = record {
+      paired = omega (arith, s.paired, ap length e, ap length f);
+      ends = omega (arith, counts_first, s.ends);
+      parts = part_next s.parts _ _ entries_first w;
+    }
 
-      ranges : All (λ s. in_range s ≡ true) (strike_at ss i ∷ strikes (drop (i + 3) ss))
-      ranges = rw (strikes_at ss i h) at c.ranged
+  pub entries_end : length ns ≡ 0 → Writes old whole new
+  unfolding entries_bytes
+  entries_end e = part_end s.parts (rw (nil_from_length ns e))
 
-      -- the next card has room, and its strike is in range
-      pub cards_room : a + length (cards_bytes (strikes ss)) ≤ length old → (next + 12 ≤ length new) × (in_range (strike_at ss i) ≡ true)
-      cards_room r = (omega (arith, length_card (strike_at ss i), partway_room c.partway (card_bytes (strike_at ss i)) _ cards_at r), ranges.0)
+-- CARDS: those of the strikes of ns are left
+abbrev pub strike_of_numbers : List ℕ → Strike
+strike_of_numbers ms = record { bell = get_or ms 0 0; force = get_or ms 1 0; delay = get_or ms 2 0 }
 
-      pub cards_next : {mid : List ℕ} {b : ℕ} → Wrote new next (card_bytes (strike_at ss i)) mid b → CardsSoFar ss old a mid b (i + 3)
-      cards_next w = record { within = omega arith; ranged = ranges.1; partway = partway_next c.partway _ _ cards_at w }
+strikes_first : (ms ss : List ℕ) → length ms ≡ 3 → strikes (ms ++ ss) ≡ strike_of_numbers ms ∷ strikes ss
+unfolding strikes
+strikes_first [] ss l = absurd (omega arith)
+strikes_first (b ∷ []) ss l = absurd (omega arith)
+strikes_first (b ∷ f ∷ []) ss l = absurd (omega arith)
+strikes_first (b ∷ f ∷ d ∷ []) ss l = refl
+strikes_first (b ∷ f ∷ d ∷ x ∷ ms) ss l = absurd (omega arith)
 
-    pub cards_done : length ss ≤ i + 2 → Wrote old a (cards_bytes (strikes ss)) new next
-    cards_done h = partway_end c.partway (ap cards_bytes (strikes_end ss i h) ∙ cards_none)
+module _ {whole ns : List ℕ} {old new : Lent ℕ} (c : CardsSoFar whole ns old new) where
+  -- the next one
+  module _ (ms ss : List ℕ) (e : ns ≡ ms ++ ss) (l : length ms ≡ 3) where
+    cards_first : cards_bytes (strikes ns) ≡ card_bytes (strike_of_numbers ms) ++ cards_bytes (strikes ss)
+    unfolding cards_bytes
+    cards_first = rw (e, strikes_first ms ss l)
 
--- THE WHOLE, where the tests answered r
-module _ (ns cs ss bs : List ℕ) (r : Outcome) (t : outcome r ≡ write_refusal ns cs ss (length bs)) where
-  pub written_refused : (why : Refusal) → r ≡ outcomes.Refused why → Written ns cs ss bs (outcomes.Refused why) bs
-  written_refused why e =
-      let (n, z) = refused_number (write_refusal ns cs ss (length bs)) r why t e in
-      record { answers = n; book_is = unless_refused _ _ _ z }
+    ranges : All (λ s. in_range s ≡ true) (strike_of_numbers ms ∷ strikes ss)
+    ranges = rw (e, strikes_first ms ss l) at c.ranged
 
-  module _ (e : r ≡ outcomes.Done) where
-    pub passed : Writable ns cs ss (length bs)
-    passed = writable ns cs ss (length bs) (no_refusal _ r t e)
+    pub cards_room : HasRoom old whole → HasRoom new (card_bytes (strike_of_numbers ms))
+    cards_room h = part_room c.parts _ _ cards_first h
 
+    pub cards_good : in_range (strike_of_numbers ms) ≡ true
+    cards_good = ranges.0
+
+    pub cards_next : {mid : Lent ℕ} → Writes new (card_bytes (strike_of_numbers ms)) mid → CardsSoFar whole ss old mid
+    cards_next w = record { ranged = ranges.1; parts = part_next c.parts _ _ cards_first w }
+
+  pub cards_end : length ns < 3 → Writes old whole new
+  unfolding cards_bytes
+  cards_end h = part_end c.parts (rw (strikes_end ns 0 (omega arith)))
+
+-- THE WHOLE, by what the tests answered
+module _ (ns cs ss bs : List ℕ) where
+  pub written_refused : (why : Refusal) → number why ≡ write_refusal ns cs ss (length bs) → Written ns cs ss bs (Err why) bs
+  written_refused why e = record { answers = e; book_is = unless_refused _ _ _ (rw (← e) (number_not_zero why)) }
+
+  module _ (e : 0 ≡ write_refusal ns cs ss (length bs)) where
     -- the book is as long as what is written
     pub whole_fits : length bs ≡ length (book_bytes ns cs ss)
-    whole_fits = passed.fits ∙ sym (length_book ns cs passed.paired ss passed.numbers)
+    whole_fits =
+        let w = writable ns cs ss (length bs) (sym e) in
+        w.fits ∙ sym (length_book ns cs w.paired ss w.numbers)
 
-    pub written_done : {new : List ℕ} {next : ℕ} → Wrote bs 0 (book_bytes ns cs ss) new next → Written ns cs ss bs outcomes.Done new
-    written_done w = record {
-      answers = sym (no_refusal _ r t e);
-      book_is = unless_done _ (book_bytes ns cs ss) bs _ (no_refusal _ r t e) (wrote_whole w whole_fits);
+    pub written_done : {lent : Lent ℕ} {new : List ℕ} → lent.list.now ≡ bs → lent.at ≡ 0 → {filled : Lent ℕ} → Writes lent (book_bytes ns cs ss) filled
+        → new ≡ filled.list.now → Written ns cs ss bs (Ok tt) new
+    written_done p q w f = record {
+      answers = e;
+      book_is = unless_done _ (book_bytes ns cs ss) bs _ (sym e) (f ∙ wrote_whole (rw (p, q) at w.wrote) whole_fits);
     }

@@ -1,8 +1,8 @@
 -- The bytes of a book that is written from tune numbers, counts of cards and strikes, and what the writer refuses (SPECIFICATION 8.13 and
 -- 8.14). An entry and a card are laid out as `book/Layout` has them.
 -- Main: card_bytes, cards_bytes, contents_bytes, book_bytes; all_cards, book_length, size_refusal, write_refusal; Written.
-use Rattle.std.specs.Prelude.{◌≡◌, Bool, false, ◌||◌, ◌&&◌, not, cond, List, [], ◌∷◌, ◌++◌, ℕ, ◌+◌, ◌*◌, ltb, eqb, length}
-use Rattle.refusal.specs.declared.Outcome.{Outcome}
+use Rattle.std.specs.Prelude.{◌≡◌, Bool, false, ◌||◌, ◌&&◌, not, cond, List, [], ◌∷◌, ◌++◌, ℕ, ◌+◌, ◌*◌, ltb, eqb, length, Result}
+use Rattle.refusal.specs.declared.Refusal.{Refusal}
 use Rattle.refusal.specs.declared.Refusal.TheVariants.{Length, BookSize, TuneNumber, Layout, StrikeField}
 use Rattle.refusal.specs.Replies.{number, outcome, unless}
 use Rattle.coding.specs.Code.{word}
@@ -67,6 +67,6 @@ write_refusal ns cs ss r =
     (cond (not (lengths_good cs ss r)) (number Length) 0)))))
 
 -- THE CONTRACT: what is answered, and what is in the lent book afterwards
-pub record Written (ns cs ss bs : List ℕ) (r : Outcome) (bs-now : List ℕ) : Type 0 where
+pub record Written (ns cs ss bs : List ℕ) (r : Result Unit Refusal) (bs-now : List ℕ) : Type 0 where
   pub answers : outcome r ≡ write_refusal ns cs ss (length bs)
   pub book_is : bs-now ≡ unless (write_refusal ns cs ss (length bs)) (book_bytes ns cs ss) bs

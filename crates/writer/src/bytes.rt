@@ -1,61 +1,37 @@
-// Numbers, entries and cards stored in a book as bytes, the high byte first. Each function answers the next place.
-ghost use Rattle.std.specs.Prelude.{◌≡◌, true, ◌+◌, ◌≤◌, length};
+// Entries and cards stored in a book as bytes, the high byte of a number first. They are functions and not methods of `Lent`, which is a type of
+// another crate.
+ghost use Rattle.std.specs.Prelude.{◌≡◌, true};
 ghost use Rattle.strike.specs.Strikes.{in_range};
-ghost use Rattle.book.specs.Layout.{two_bytes, four_bytes, entry_bytes, symbols_bytes};
-ghost use Rattle.text.specs.Writing.{Wrote};
+ghost use Rattle.book.specs.Layout.{entry_bytes};
+ghost use Rattle.text.specs.Writing.{HasRoom, Writes};
 ghost use Rattle.writer.specs.Writing.{card_bytes};
 
+use codec::{Dimension, Message};
 use strike::Strike;
-
-// A number as two bytes.
-pub(crate) fn write_two(book: &mut [u8], at: usize, n: u16) -> usize
-    requires { at + 2 ≤ length book.old }
-    ensures { Wrote book.old at (two_bytes n) book.new result }
-{
-    book[at] = (n / 256) as u8;
-    book[at + 1] = (n % 256) as u8;
-    at + 2
-}
-
-// A number as four bytes.
-fn write_four(book: &mut [u8], at: usize, n: u32) -> usize
-    requires { at + 4 ≤ length book.old }
-    ensures { Wrote book.old at (four_bytes n) book.new result }
-{
-    let next = write_two(book, at, (n / 65536) as u16);
-    write_two(book, next, (n % 65536) as u16)
-}
+use text::Lent;
 
 // An entry of the contents: the tune number, the offset of its body, its count of cards.
-pub(crate) fn write_entry(book: &mut [u8], at: usize, number: u16, offset: u32, cards: u16) -> usize
-    requires { at + 8 ≤ length book.old }
-    ensures { Wrote book.old at (entry_bytes number offset cards) book.new result }
+#[tactic(auto, using(text::proofs::WritingLaws::writing, crate::proofs::Filled::two_is, crate::proofs::Filled::four_is), unfolding(book::specs::Layout::entry_bytes))]
+pub(crate) fn push_entry(book: &mut Lent<'_, u8>, number: u16, offset: u32, cards: u16)
+    requires { HasRoom book.old (entry_bytes number offset cards) }
+    ensures { Writes book.old (entry_bytes number offset cards) book.new }
 {
-    let number_end = write_two(book, at, number);
-    let offset_end = write_four(book, number_end, offset);
-    write_two(book, offset_end, cards)
-}
-
-// Six symbols.
-fn write_symbols(book: &mut [u8], at: usize, word: [u16; 6]) -> usize
-    requires { at + 12 ≤ length book.old }
-    ensures { Wrote book.old at (symbols_bytes word) book.new result }
-{
-    let one = write_two(book, at, word[0]);
-    let two = write_two(book, one, word[1]);
-    let three = write_two(book, two, word[2]);
-    let four = write_two(book, three, word[3]);
-    let five = write_two(book, four, word[4]);
-    write_two(book, five, word[5])
+    book.extend_from_slice(&number.to_be_bytes());
+    book.extend_from_slice(&offset.to_be_bytes());
+    book.extend_from_slice(&cards.to_be_bytes());
 }
 
 // The card of a strike: the word of its message for k = 2.
-pub(crate) fn write_card(book: &mut [u8], at: usize, s: Strike) -> usize
-    requires room { at + 12 ≤ length book.old }
-    requires good { in_range s ≡ true }
-    ensures { Wrote book.old at (card_bytes s) book.new result }
+pub(crate) fn push_card(book: &mut Lent<'_, u8>, strike: Strike)
+    requires room { HasRoom book.old (card_bytes strike) }
+    requires good { in_range strike ≡ true }
+    ensures { Writes book.old (card_bytes strike) book.new }
 {
-    let message = strike::strike_message(s);
-    let word = codec::word_of(2, message);
-    write_symbols(book, at, word)
+    let message = Message {
+        k: Dimension { value: 2 },
+        numbers: strike.message(),
+    };
+    for symbol in message.word() {
+        book.extend_from_slice(&symbol.to_be_bytes());
+    }
 }

@@ -1,8 +1,8 @@
--- `capi::lucetcoral_damaged_card` meets its contract: what the answer says is given.
-use mathlib.Core.Option.{none}
-use Rattle.algebra.specs.Search.{or_zero}
-use Rattle.capi.specs.Given.{given}
+-- `capi::lucetcoral_damaged_card` meets its contract: the card, or 0 for none, is given.
+use Rattle.std.proofs.Common.{rules}
+use Rattle.capi.specs.Given.{worn_says, given}
 use Rattle.capi.proofs.lucetcoral_damaged_card.Goals as goal
 
 pub returns : goal.returns
-returns c = given or_zero none _ _ _ _ _ _ c.damaged_card.ensures c.give_card.ensures.refusal c.give_card.ensures.given
+returns c =
+    given _ c.damaged_card.result _ _ (worn_says c.damaged_card.result _ _ c.damaged_card.ensures) c.map.result (search rules) _ _ _ c.give.ensures.refusal c.give.ensures.given

@@ -1,19 +1,14 @@
 -- `capi::lucetcoral_wear` meets its contract: sum and first card are given exactly where there is no refusal.
-use mathlib.Core.Path.{ap}
+use Rattle.std.proofs.Common.{rules}
 use Rattle.wear.specs.declared.runs.Run.{Run}
-use Rattle.wear.specs.Wear.{no_run, wear_reply}
-use Rattle.capi.specs.Given.{part_refused, part_given}
+use Rattle.wear.specs.Wear.{no_run}
+use Rattle.capi.specs.Given.{answer_says, given}
 use Rattle.capi.proofs.lucetcoral_wear.Goals as goal
 
-pub returns-in-Refused : goal.returns-in-Refused
-returns-in-Refused c =
-    let w = c.worst_run.ensures in
-    let p = ap wear_reply c.in-Refused.is in
-    let n = c.number.ensures in
-    record { sum_given = part_refused (λ (r : Run). r.sum) no_run _ _ _ w _ c.in-Refused.why _ p n; first_given = part_refused (λ (r : Run). r.first) no_run _ _ _ w _ c.in-Refused.why _ p n }
-
-pub returns-in-Run : goal.returns-in-Run
-returns-in-Run c =
-    let w = c.worst_run.ensures in
-    let p = ap wear_reply c.in-Run.is in
-    record { sum_given = part_given (λ (r : Run). r.sum) no_run _ _ _ w _ _ p; first_given = part_given (λ (r : Run). r.first) no_run _ _ _ w _ _ p }
+pub returns : goal.returns
+returns c =
+    let r = c.worst_run-run.result in
+    let e = c.worst_run-run.ensures in
+    let sum = given (λ (r : Run). r.sum) r _ _ (answer_says (λ (r : Run). r.sum) no_run r _ _ e) c.map.result (search rules) _ _ _ c.give.ensures.refusal c.give.ensures.given in
+    let first = given (λ (r : Run). r.first) r _ _ (answer_says (λ (r : Run). r.first) no_run r _ _ e) c.map-2.result (search rules) _ _ _ c.give-2.ensures.refusal c.give-2.ensures.given in
+    record { sum_given = record { answers = first.answers; lent_is = sum.lent_is }; first_given = first }

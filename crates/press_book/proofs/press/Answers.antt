@@ -3,26 +3,20 @@ use Rattle.std.proofs.Common.{arith, sym, length-take-le}
 use Rattle.pressing.proofs.AnswerLaws.{book_within, line_within, book_front, line_front}
 use Rattle.press_book.proofs.press.Goals as goal
 
-pub slice_bounds-print_book-end : goal.slice_bounds-print_book-end
-slice_bounds-print_book-end c =
-    let g = c.press.ensures in
-    let e = c.in-Texts.is in
-    omega (arith, book_within g e, line_within g e, c.requires.book, c.requires.line)
+pub slice_bounds-book-end : goal.slice_bounds-book-end
+slice_bounds-book-end c = omega (arith, book_within c.press-lengths.ensures c.in-Ok.is, line_within c.press-lengths.ensures c.in-Ok.is)
 
-pub slice_bounds-print_book-end-in-Texts : goal.slice_bounds-print_book-end-in-Texts
-slice_bounds-print_book-end-in-Texts c = sym (length-take-le _ _ (slice_bounds-print_book-end c))
+pub slice_bounds-print_book-end : goal.slice_bounds-print_book-end
+slice_bounds-print_book-end c = sym (length-take-le _ _ (omega (arith, book_within c.press-lengths.ensures c.in-Ok.is, line_within c.press-lengths.ensures c.in-Ok.is)))
 
 pub print_book-requires : goal.print_book-requires
-print_book-requires c = book_front c.press.ensures c.in-Texts.is
+print_book-requires c = book_front c.press-lengths.ensures c.in-Ok.is
+
+pub slice_bounds-line-end : goal.slice_bounds-line-end
+slice_bounds-line-end c = omega (arith, book_within c.press-lengths.ensures c.in-Ok.is, line_within c.press-lengths.ensures c.in-Ok.is)
 
 pub slice_bounds-say_line-end : goal.slice_bounds-say_line-end
-slice_bounds-say_line-end c =
-    let g = c.press.ensures in
-    let e = c.in-Texts.is in
-    omega (arith, book_within g e, line_within g e, c.requires.book, c.requires.line)
-
-pub slice_bounds-say_line-end-in-Texts : goal.slice_bounds-say_line-end-in-Texts
-slice_bounds-say_line-end-in-Texts c = sym (length-take-le _ _ (slice_bounds-say_line-end c))
+slice_bounds-say_line-end c = sym (length-take-le _ _ (omega (arith, book_within c.press-lengths.ensures c.in-Ok.is, line_within c.press-lengths.ensures c.in-Ok.is)))
 
 pub say_line-requires : goal.say_line-requires
-say_line-requires c = line_front c.press.ensures c.in-Texts.is
+say_line-requires c = line_front c.press-lengths.ensures c.in-Ok.is

@@ -14,4 +14,4 @@ returns-then-any_above c = weighed_range _ (omega arith) _ c.any_above.ensures c
 pub returns : goal.returns
 returns c =
     let h = c.if-symbols-ne6.false in
-    weighed_card _ h _ c.any_above.ensures _ (c.weight_of_six-weight.ensures ∙ ap weight_of (six c.args.symbols.now h)) c.if-any_above.false
+    weighed_card _ h _ c.any_above.ensures _ (c.weight_of_six.ensures ∙ ap weight_of (six c.args.symbols.now h)) c.if-any_above.false

@@ -9,7 +9,7 @@ use Rattle.rank.proofs.weight_of_six.Goals as goal
 
 pub returns-then-total-eq0 : goal.returns-then-total-eq0
 returns-then-total-eq0 c =
-    c.no_weight.ensures ∙ weight_of_zeros _ refl (sym c.total.ensures ∙ c.if-total-eq0.true)
+    ap (λ n. record { rank = n }) c.default.ensures ∙ weight_of_zeros _ refl (sym c.total.ensures ∙ c.if-total-eq0.true)
 
 pub pivots-requires : goal.pivots-requires
 pivots-requires c = rw c.digit_square.ensures (square_settled _)

@@ -1,34 +1,30 @@
 -- `wear_lines::write_tune` meets its contract: the answer of `worst_run` decides which line it is.
-use mathlib.Core.Path.{◌≡◌, ap}
-use native.Mathlib.Omega.{arith}
-use lib.ListN.{length}
+use Rattle.std.proofs.Common.{◌≡◌}
 use Rattle.book.specs.Entries.{entry_parts}
 use Rattle.wear_lines.specs.WearLines.{run_line, short_line, wear_line}
 use Rattle.wear_lines.specs.Lines.{line_run, line_short}
 use Rattle.wear_lines.proofs.write_tune.Goals as goal
-use Rattle.wear_lines.proofs.write_tune.Goals.{In-Refused, In-Run}
+use Rattle.wear_lines.proofs.write_tune.Goals.{In-Err, In-Ok}
 
 -- the line with the entry's number
-run_line_is : (c : In-Run) →
-    wear_line c.args.book.now c.args.e ≡ run_line c.entry_at-tune.result.number c.in-Run.run'
+run_line_is : (c : In-Ok) → wear_line c.args.entry.now.book.now c.args.entry.now.place ≡ run_line c.tune-number.result.number c.in-Ok.run'
 run_line_is c =
-    let t = entry_parts _ _ _ c.entry_at-tune.ensures in
-    rw t.0 (line_run _ _ c.requires.accepted _ (rw c.body_at.ensures at c.worst_run.ensures) _ c.in-Run.is)
+    let t = entry_parts _ _ _ c.tune-number.ensures in
+    rw t.0 (line_run _ _ c.args.entry.now.accepted _ (rw c.body.ensures at c.worst_run.ensures) _ c.in-Ok.is)
 
-short_line_is : (c : In-Refused) →
-    wear_line c.args.book.now c.args.e ≡ short_line c.entry_at-tune.result.number
+short_line_is : (c : In-Err) → wear_line c.args.entry.now.book.now c.args.entry.now.place ≡ short_line c.tune-number.result.number
 short_line_is c =
-    let t = entry_parts _ _ _ c.entry_at-tune.ensures in
-    rw t.0 (line_short _ _ c.requires.accepted _ (rw c.body_at.ensures at c.worst_run.ensures) _ c.in-Refused.is)
+    let t = entry_parts _ _ _ c.tune-number.ensures in
+    rw t.0 (line_short _ _ c.args.entry.now.accepted _ (rw c.body.ensures at c.worst_run.ensures) _ c.in-Err.is)
 
-pub write_run-requires : goal.write_run-requires
-write_run-requires c = omega (arith, ap length (run_line_is (goal.at.write_run-requires c).In-Run))
+pub push_run-requires : goal.push_run-requires
+push_run-requires c = rw (← run_line_is (goal.at.push_run-requires c).In-Ok) c.requires
 
-pub write_short-requires : goal.write_short-requires
-write_short-requires c = omega (arith, ap length (short_line_is (goal.at.write_short-requires c).In-Refused))
+pub push_short-requires : goal.push_short-requires
+push_short-requires c = rw (← short_line_is (goal.at.push_short-requires c).In-Err) c.requires
 
-pub returns-in-Run : goal.returns-in-Run
-returns-in-Run c = rw (run_line_is (goal.at.returns-in-Run c).In-Run) c.write_run.ensures
+pub returns-in-Ok : goal.returns-in-Ok
+returns-in-Ok c = rw (run_line_is (goal.at.returns-in-Ok c).In-Ok) c.push_run.ensures
 
-pub returns-in-Refused : goal.returns-in-Refused
-returns-in-Refused c = rw (short_line_is (goal.at.returns-in-Refused c).In-Refused) c.write_short.ensures
+pub returns-in-Err : goal.returns-in-Err
+returns-in-Err c = rw (short_line_is (goal.at.returns-in-Err c).In-Err) c.push_short.ensures

@@ -1,22 +1,13 @@
--- `book::pull::tune_offset` meets its contract: the entry that `tune_place` gives is in an accepted book and bears the number.
+-- `book::pull::tune_offset` meets its contract: the entry that was found is in an accepted book and bears the number.
 use mathlib.Core.Path.{sym, ◌∙◌}
-use Rattle.refusal.specs.Replies.{answer_refused, answer_value}
-use Rattle.book.specs.Pulled.{There}
-use Rattle.book.proofs.Pulled.{pulls_only, refused_from}
+use Rattle.refusal.specs.Replies.{refusal_some}
+use Rattle.book.proofs.Pulled.{found_there, refused_from}
 use Rattle.book.proofs.pull.tune_offset.Goals as goal
-use Rattle.book.proofs.pull.tune_offset.Goals.{In-Value}
 
--- the entry at the place
-there : (c : In-Value) → There c.args.book.now c.args.number c.in-Value.e
-there c =
-    let t = answer_value _ _ _ _ c.in-Value.is c.tune_place.ensures in
-    rw t.1 (pulls_only _ _ t.0)
+pub returns-in-Ok : goal.returns-in-Ok
+returns-in-Ok c =
+    let f = c.in-Ok.ensures.found in
+    rw (c.offset.ensures, f.0) (sym (found_there _ _ _ (sym c.in-Ok.ensures.refusal) f.1).begins)
 
-pub returns-in-Refused : goal.returns-in-Refused
-returns-in-Refused c = sym (refused_from _ _ (answer_refused _ _ _ _ c.in-Refused.is c.tune_place.ensures).1)
-
-pub returns-in-Value : goal.returns-in-Value
-returns-in-Value c = c.offset_at.ensures ∙ sym (there (goal.at.returns-in-Value c).In-Value).begins
-
-pub offset_at-requires : goal.offset_at-requires
-offset_at-requires c = (there (goal.at.offset_at-requires c).In-Value).held
+pub returns-in-Err : goal.returns-in-Err
+returns-in-Err c = sym (refused_from _ _ (λ z. refusal_some _ (c.in-Err.ensures.refusal ∙ z)))

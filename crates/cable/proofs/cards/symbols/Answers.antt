@@ -1,33 +1,13 @@
--- `cable::cards::symbols` meets its contract: the tests decide, and then the list is filled.
-use mathlib.Core.Path.{◌≡◌, sym, ap, ◌∙◌}
-use mathlib.Core.Bool.{Bool, false, not}
-use mathlib.Core.List.{map}
-use lib.ListN.{length}
-use Rattle.algebra.specs.Tests.{any}
-use Rattle.refusal.specs.Replies.{outcome, no_refusal, gives_refused, gives_done}
-use Rattle.codec.specs.Operations.{tests}
-use Rattle.levels.specs.Levels.{outside, symbol_of}
+-- `cable::cards::symbols` meets its contract: a refusal of the tests leaves the list as it was.
+use Rattle.std.proofs.Common.{map}
+use Rattle.std.proofs.lemmas.Result.{err_from_is_err_and}
+use Rattle.refusal.specs.Replies.{gives_refused}
+use Rattle.levels.specs.Levels.{symbol_of}
 use Rattle.cable.specs.Operations.{symbols_refusal}
-use Rattle.cable.specs.Steps.{symbols_passed}
 use Rattle.cable.proofs.cards.symbols.Goals as goal
-use Rattle.cable.proofs.cards.symbols.Goals.{After-test_numbers-tested}
 
--- what the tests said
-said : (t : After-test_numbers-tested) →
-    outcome t.test_numbers-tested.result ≡ symbols_refusal t.args.numbers.now (length t.args.card.now)
+pub returns-in_err-test_numbers : goal.returns-in_err-test_numbers
 unfolding symbols_refusal
-said t =
-    t.test_numbers-tested.ensures ∙ ap (λ (fit : Bool). tests false (not fit) (any outside t.args.numbers.now)) t.lengths_fit-fit.ensures
-
-pub returns-in-Refused : goal.returns-in-Refused
-returns-in-Refused c =
-    gives_refused (symbols_refusal c.args.numbers.now _) (map symbol_of c.args.numbers.now) c.args.card.now _ (said (goal.at.returns-in-Refused c).After-test_numbers-tested) _ c.in-Refused.is
-
-pub fill_symbols-requires : goal.fill_symbols-requires
-fill_symbols-requires c =
-    let p = symbols_passed _ _ (no_refusal _ _ (said (goal.at.fill_symbols-requires c).After-test_numbers-tested) c.in_default.is) in
-    (p.0 ∙ sym p.1, p.2)
-
-pub returns : goal.returns
-returns c =
-    gives_done (symbols_refusal c.args.numbers.now _) (map symbol_of c.args.numbers.now) c.args.card.now _ (said (goal.at.returns c).After-test_numbers-tested) c.in_default.is _ c.fill_symbols.ensures
+returns-in_err-test_numbers c =
+    let p = err_from_is_err_and c.from_residual.result c.from_residual.ensures.1 in
+    rw (p.1, p.2) (gives_refused _ (map symbol_of c.args.numbers.now) c.args.card.now _ (rw c.lengths_fit-fit.ensures at c.test_numbers.ensures) _ c.in_err-test_numbers.was)

@@ -1,27 +1,22 @@
 -- `candidate::shape::is_word` meets its contract: each test on the way decides one test of the definition.
 use mathlib.Core.Path.{sym, ◌∙◌}
-use borrow.Author.Tests.{eq-eqb, ne_eqb}
-use Rattle.algebra.specs.SmallField.{high}
+use borrow.Author.Rules.{rules}
 use Rattle.rank.specs.Definitions.{at}
 use Rattle.coding.specs.Clean.{shaped}
 use Rattle.candidate.proofs.shape.is_word.Goals as goal
+use Rattle.candidate.proofs.shape.is_word.Goals.{then-none_beyond, else-none_beyond}
 
-pub returns-then-not-none_beyond : goal.returns-then-not-none_beyond
-unfolding shaped
-returns-then-not-none_beyond c = sym (rw (sym c.none_beyond.ensures ∙ c.if-not-none_beyond.true))
-
-pub returns-then-high-ne0 : goal.returns-then-high-ne0
+pub returns-then-high-eq0 : goal.returns-then-high-eq0
 unfolding shaped at
-returns-then-high-ne0 c =
-    sym (rw (
-      sym c.none_beyond.ensures ∙ c.if-not-none_beyond.false,
-      ne_eqb (high _) 0 (λ z. c.if-high-ne0.true (c.high.ensures ∙ z)),
-    ))
+returns-then-high-eq0 c = elim c.if-none_beyond.branch [
+  | then-none_beyond w ↦ rw c.low.ensures
+      (sym (rw (sym c.none_beyond.ensures ∙ w.if-none_beyond.true, rw w.high.ensures at (sym w.value-is ∙ c.if-high-eq0.true))))
+  | else-none_beyond w ↦ search rules
+]
 
-pub returns : goal.returns
+pub returns-else-high-eq0 : goal.returns-else-high-eq0
 unfolding shaped at
-returns c =
-    rw c.low.ensures (sym (rw (
-      sym c.none_beyond.ensures ∙ c.if-not-none_beyond.false,
-      eq-eqb (high _) 0 (sym c.high.ensures ∙ c.if-high-ne0.false),
-    )))
+returns-else-high-eq0 c = c.if-high-eq0.false ∙ (elim c.if-none_beyond.branch [
+  | then-none_beyond w ↦ sym (rw (sym c.none_beyond.ensures ∙ w.if-none_beyond.true, rw w.high.ensures at (sym w.value-is ∙ c.if-high-eq0.false)))
+  | else-none_beyond w ↦ sym (rw (sym c.none_beyond.ensures ∙ w.if-none_beyond.false))
+])

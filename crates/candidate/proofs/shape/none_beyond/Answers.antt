@@ -5,4 +5,4 @@ use Rattle.candidate.proofs.shape.none_beyond.Goals as goal
 
 pub returns : goal.returns
 unfolding at
-returns c = none_written c.args.k c.requires.0 c.requires.1 (at c.args.r)
+returns c = none_written c.args.k.value c.args.k.within.0 c.args.k.within.1 (at c.args.r)

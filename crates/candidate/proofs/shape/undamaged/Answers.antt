@@ -1,5 +1,5 @@
 -- `candidate::shape::undamaged` meets its contract: a word is decoded to its message, and differs by nothing from itself.
-use mathlib.Core.Path.{sym, ◌∙◌}
+use mathlib.Core.Path.{refl, sym, ap, ◌∙◌}
 use Rattle.rank.specs.Weight.{weight_self}
 use Rattle.coding.specs.Clean.{word_decode}
 use Rattle.candidate.specs.Finding.{found_message}
@@ -8,5 +8,5 @@ use Rattle.candidate.proofs.shape.undamaged.Goals as goal
 pub returns : goal.returns
 unfolding found_message
 returns c =
-    let (p, q, card, m, w) = c.requires in
-    (sym (word_decode _ p q _ card _ m w), record { word_is = λ f. sym w; weight_is = λ f. c.no_weight.ensures ∙ weight_self _ })
+    let m = c.args.message in
+    (sym (word_decode m.k.value m.k.within.0 m.k.within.1 _ c.args.card.is_card _ m.small c.requires), (refl, ap (λ n. record { rank = n }) c.default.ensures ∙ weight_self _))

@@ -18,4 +18,4 @@ returns c =
       c.unless_dead-6.ensures.0,
       c.kept-6.ensures,
     )
-    (blanked_six c.args.rows c.args.columns c.args.d c.well_formed.1.1.0.1.0.1)
+    (blanked_six c.args.rows.bits c.args.columns.bits c.args.d c.well_formed.1.1.0.1.0.1)

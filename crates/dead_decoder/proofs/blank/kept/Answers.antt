@@ -12,4 +12,4 @@ returns c =
       c.unless_dead-2.ensures.0,
       c.unless_dead.ensures.0,
     )
-    (kept_six c.args.rows c.args.v)
+    (kept_six c.args.rows.bits c.args.v)

@@ -1,20 +1,9 @@
--- `dead_decoder::roots::square_root` meets its contract: the exponent that is read is halved.
-use native.Mathlib.Omega.{arith}
-use Rattle.field.specs.Tables.{log_small}
+-- `dead_decoder::roots::square_root` meets its contract: the exponent is halved.
 use Rattle.dead_decoder.specs.Roots.{root_none, root_read}
 use Rattle.dead_decoder.proofs.roots.square_root.Goals as goal
 
-pub returns-then-x-eq0 : goal.returns-then-x-eq0
-returns-then-x-eq0 c = root_none c.args.v c.if-x-eq0.true
+pub returns-then-v-eq0 : goal.returns-then-v-eq0
+returns-then-v-eq0 c = root_none c.args.v c.if-v-eq0.true
 
 pub returns : goal.returns
-returns c = root_read c.requires c.args.v c.if-x-eq0.false
-
-pub overflow_cast-n : goal.overflow_cast-n
-overflow_cast-n c = omega (arith, log_small c.requires c.args.v)
-
-pub offset_bounds-powers-n : goal.offset_bounds-powers-n
-offset_bounds-powers-n c = omega (arith, log_small c.requires c.args.v)
-
-pub bounds-powers-n : goal.bounds-powers-n
-bounds-powers-n c = omega (arith, log_small c.requires c.args.v)
+returns c = rw (c.power.ensures, c.log.ensures.value) (root_read c.args.v c.if-v-eq0.false)

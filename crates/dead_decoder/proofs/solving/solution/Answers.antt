@@ -6,19 +6,16 @@ use Rattle.dead_decoder.proofs.solving.solution.Goals as goal
 
 pub solved_pair-f-requires : goal.solved_pair-f-requires
 unfolding at
-solved_pair-f-requires c = (c.determinant-known.ensures, c.requires)
+solved_pair-f-requires c = c.determinant-known.ensures
 
-pub returns-then-n-le2 : goal.returns-then-n-le2
+pub returns-in-0-to-2 : goal.returns-in-0-to-2
 unfolding at
-returns-then-n-le2 c =
-    solution_two c.args.n c.args.r _ c.if-n-le2.true c.solved_pair-f.ensures
+returns-in-0-to-2 c = solution_two c.args.n c.args.r _ (omega arith) c.solved_pair-f.ensures
 
-pub returns-then-n-le4 : goal.returns-then-n-le4
+pub returns-in-3-to-4 : goal.returns-in-3-to-4
 unfolding at
-returns-then-n-le4 c =
-    solution_four c.args.n c.args.r _ (omega arith) c.if-n-le4.true c.residual.ensures
+returns-in-3-to-4 c = solution_four c.args.n c.args.r _ (omega arith) (omega arith) c.residual.ensures
 
-pub returns : goal.returns
+pub returns-in_default : goal.returns-in_default
 unfolding at
-returns c =
-    solution_six c.args.n c.args.r (omega arith) c.well_formed.1.0.1.0.1
+returns-in_default c = solution_six c.args.n c.args.r (omega arith) (omega arith)

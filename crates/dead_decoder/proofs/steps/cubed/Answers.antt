@@ -6,4 +6,4 @@ use Rattle.algebra.specs.Products.{one_times, cube_linear}
 use Rattle.dead_decoder.proofs.steps.cubed.Goals as goal
 
 pub returns : goal.returns
-returns c = let v = c.args.v in c.cube_product_with.ensures ∙ one_times (cube v) ∙ mod-eq_of_lt (cube_linear.below v)
+returns c = let v = c.args.v in c.cube_product.ensures ∙ one_times (cube v) ∙ mod-eq_of_lt (cube_linear.below v)

@@ -1,17 +1,18 @@
 -- `dead_decoder::tries::lower_rank` meets its contract: n decides what is tested.
 use Rattle.rank.specs.Definitions.{at}
 use Rattle.dead_lines.specs.Solving.{lower_rank}
+use native.Mathlib.Omega.{arith}
 use borrow.Author.Tests.{eq-eqb, ne_eqb}
 use Rattle.dead_decoder.proofs.tries.lower_rank.Goals as goal
 
-pub returns-then-n-eq2 : goal.returns-then-n-eq2
+pub returns-in-2 : goal.returns-in-2
 unfolding lower_rank at
-returns-then-n-eq2 c = rw (eq-eqb _ _ c.if-n-eq2.true, ← c.determinant.ensures)
+returns-in-2 c = rw (eq-eqb _ _ c.in-2.is, ← c.determinant.ensures)
 
-pub returns-then-n-eq4 : goal.returns-then-n-eq4
+pub returns-in-4 : goal.returns-in-4
 unfolding lower_rank at
-returns-then-n-eq4 c = rw (ne_eqb _ _ c.if-n-eq2.false, eq-eqb _ _ c.if-n-eq4.true)
+returns-in-4 c = rw c.in-4.is
 
-pub returns : goal.returns
+pub returns-in_default : goal.returns-in_default
 unfolding lower_rank
-returns c = rw (ne_eqb _ _ c.if-n-eq2.false, ne_eqb _ _ c.if-n-eq4.false)
+returns-in_default c = rw (ne_eqb c.args.n 2 (λ e. omega arith), ne_eqb c.args.n 4 (λ e. omega arith))

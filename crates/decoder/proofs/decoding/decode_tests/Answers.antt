@@ -2,12 +2,11 @@
 use borrow.Author.Tests.{eq-eqb, ne_eqb}
 use Rattle.decoder.specs.Decoding.{decode_tests, lengths_bad}
 use Rattle.decoder.proofs.decoding.decode_tests.Goals as goal
+use Rattle.decoder.proofs.decoding.decode_tests.Goals.{then-card-eq6, else-card-eq6}
 
-pub returns-then-card-ne6 : goal.returns-then-card-ne6
+pub returns-clause-tested : goal.returns-clause-tested
 unfolding decode_tests lengths_bad
-returns-then-card-ne6 c = rw (ne_eqb _ _ c.if-card-ne6.true) c.test_input.ensures
-
-pub returns : goal.returns
-unfolding decode_tests lengths_bad
-returns c =
-    rw (eq-eqb _ _ c.if-card-ne6.false) (rw c.lengths_fit-fit.ensures at c.test_input-2.ensures)
+returns-clause-tested c = elim c.if-card-eq6.branch [
+  | then-card-eq6 w ↦ rw (eq-eqb _ _ w.if-card-eq6.true) (rw (w.fit-is, w.lengths_fit-fit.ensures) at c.test_input.ensures.tested)
+  | else-card-eq6 w ↦ rw (ne_eqb _ _ w.if-card-eq6.false) (rw (w.fit-is, ne_eqb _ _ w.if-card-eq6.false) at c.test_input.ensures.tested)
+]

@@ -3,11 +3,11 @@ use Rattle.rank.specs.Definitions.{at}
 use Rattle.decoder.specs.Doubles.{pair_by}
 use Rattle.decoder.proofs.one.solved_pair.Goals as goal
 
-pub annihilator_of-a-requires : goal.annihilator_of-a-requires
+pub new-a-requires : goal.new-a-requires
 unfolding at
-annihilator_of-a-requires c = c.requires
+new-a-requires c = c.requires
 
 pub returns : goal.returns
 unfolding at
 returns c =
-    pair_by (at c.args.r) _ c.annihilator_of-a.ensures _ _ _ c.solved-f0.ensures c.difference-e0.ensures c.solved-f1.ensures
+    pair_by (at c.args.r) _ c.new-a.ensures _ _ _ c.solve-f0.ensures c.difference-e0.ensures c.solve-f1.ensures

@@ -1,7 +1,6 @@
 -- `decoder::one::two_numbers` meets its contract: each number by its call.
-use mathlib.Core.Path.{refl}
-use Rattle.algebra.specs.Lists.{cons}
+use Rattle.decoder.specs.Doubles.{parts_message}
 use Rattle.decoder.proofs.one.two_numbers.Goals as goal
 
-pub returns : goal.returns
-returns c = cons c.low.ensures (cons c.high.ensures refl)
+pub invariant_of-result-2 : goal.invariant_of-result-2
+invariant_of-result-2 c = record { small = rw (c.low.ensures, c.high.ensures) (parts_message _ _) }

@@ -1,35 +1,26 @@
 -- `decoder::single::find_single` meets its contract: the residual is a word's, and its message is checked, or it is none.
 use mathlib.Core.Path.{sym, ap, ◌∙◌}
-use Prim.Native.Nat.{suc}
-use native.Mathlib.Omega.{arith}
-use Rattle.algebra.specs.Lists.{table, length_table}
 use Rattle.rank.specs.Definitions.{at}
-use Rattle.coding.specs.Coefficients.{is_message_read}
 use Rattle.coding.specs.Decode.{if_near}
-use Rattle.candidate.specs.Finding.{message_none, matches_none}
+use Rattle.codec.specs.declared.dimension.Dimension.{Dimension}
+use Rattle.codec.specs.Messages.{numbers_of}
+use Rattle.candidate.specs.Finding.{found_message}
 use Rattle.decoder.specs.Singles.{unfit, fit}
 use Rattle.decoder.proofs.single.find_single.Goals as goal
 
 pub returns-then-not-is_word : goal.returns-then-not-is_word
-unfolding at
-returns-then-not-is_word c = (
-  message_none c.args.k _ c.nothing.ensures
-      ∙ sym (unfit c.args.card _ c.requires.2 c.args.u _ c.residual-f.ensures c.args.k c.requires.1
-      (sym c.is_word.ensures ∙ c.if-not-is_word.true)),
-  matches_none c.args.k _ _ c.nothing.ensures,
-)
-
-pub near-requires : goal.near-requires
-near-requires c =
-    let f = at c.residual-f.result in
-    (c.requires.0, omega arith, rw c.read_message.ensures (is_message_read c.args.k c.requires.0 (table (suc c.args.k) f) (length_table (suc c.args.k) f)))
+unfolding at found_message
+returns-then-not-is_word c =
+    let r = c.args.received in
+    (sym (unfit r.card.symbols _ r.spectrum_is c.args.u _ c.residual-f.ensures c.args.k.value c.requires (sym c.is_word.ensures ∙ c.if-not-is_word.true)), tt)
 
 pub returns : goal.returns
 unfolding at
-returns c = (
-  c.near.ensures.0
-      ∙ ap (if_near c.args.k c.args.card) c.read_message.ensures
-      ∙ fit c.args.card _ c.requires.2 c.args.u _ c.residual-f.ensures c.args.k c.requires.1
-      (sym c.is_word.ensures ∙ c.if-not-is_word.false),
-  c.near.ensures.1,
-)
+returns c =
+    let r = c.args.received in (
+      c.near.ensures.0
+          ∙ ap (λ (k : Dimension). if_near k.value r.card.symbols (numbers_of c.read_message.result)) c.read_message.ensures.of_k
+          ∙ ap (if_near c.args.k.value r.card.symbols) c.read_message.ensures.numbers
+          ∙ fit r.card.symbols _ r.spectrum_is c.args.u _ c.residual-f.ensures c.args.k.value c.requires (sym c.is_word.ensures ∙ c.if-not-is_word.false),
+      rw c.read_message.ensures.of_k at c.near.ensures.1,
+    )

@@ -6,4 +6,4 @@ use Rattle.decoder.proofs.single.ratio.Goals as goal
 
 pub returns : goal.returns
 returns c =
-    c.cube_product_with.ensures ∙ ap (times c.args.v) (ap cube c.inverse_with.ensures ∙ inverse_cube _)
+    c.cube_product.ensures ∙ ap (times c.args.v) (ap cube c.inverse.ensures ∙ inverse_cube _)

@@ -2,4 +2,4 @@
 use Rattle.decoder.proofs.two.inner_coefficient.Goals as goal
 
 pub returns : goal.returns
-returns c = rw (c.solved.ensures, c.difference-e.ensures, c.value_at.ensures)
+returns c = rw (c.solve.ensures, c.difference-e.ensures, c.at.ensures)

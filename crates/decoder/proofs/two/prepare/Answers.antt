@@ -17,9 +17,9 @@ returns c =
       zeroth = refl;
       first = refl;
       fifth = refl;
-      determinant = λ x. determinant_at r x _ c.determinant-d.ensures c.cube_product_with.ensures;
+      determinant = λ x. determinant_at r x _ c.determinant-d.ensures c.cube_product.ensures;
       numerator = λ x. numerator_at r x _ c.numerator-n.ensures (c.ninth_product.ensures ∙ times_one _ ∙ mod-eq_of_lt (cube_linear.below _));
-      ninth = λ x. ninth_at r x _ (rw (c.ninth_numerator.ensures, c.determinant-d.ensures, c.numerator-n.ensures, c.requires.0))
-          (c.difference.ensures ∙ ap (minus 0) (c.cube_product_with-2.ensures ∙ ap (λ x. times 684 (cube x)) c.determinant-before.ensures));
-      inverse = c.inverse_with.ensures ∙ ap inverse c.requires.0;
+      ninth = λ x. ninth_at r x _ (rw (c.ninth_numerator.ensures, c.determinant-d.ensures, c.numerator-n.ensures, c.requires))
+          (c.difference.ensures ∙ ap (minus 0) (c.cube_product-2.ensures ∙ ap (λ x. times 684 (cube x)) c.determinant-before.ensures));
+      inverse = c.inverse.ensures ∙ ap inverse c.requires;
     }

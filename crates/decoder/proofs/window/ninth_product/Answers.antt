@@ -5,4 +5,4 @@ use Rattle.algebra.specs.Products.{times_comm}
 use Rattle.decoder.proofs.window.ninth_product.Goals as goal
 
 pub returns : goal.returns
-returns c = c.cube_product_with.ensures ∙ times_comm _ _ ∙ ap (λ x. times (cube x) c.args.a) c.cube.ensures
+returns c = c.cube_product.ensures ∙ times_comm _ _ ∙ ap (λ x. times (cube x) c.args.a) c.cube.ensures

@@ -1,6 +1,7 @@
--- `field::sum` meets its contract: each digit is the remainder of a sum of quotients.
+-- `field::sum` meets its contract: once the other symbol.
+use mathlib.Core.Path.{◌∙◌}
 use Rattle.field.specs.DigitSums.{sum_is}
 use Rattle.field.proofs.sums.sum.Goals as goal
 
 pub returns : goal.returns
-returns c = sum_is c.args.a c.args.b
+returns c = c.with_multiple.ensures ∙ sum_is c.args.a c.args.b

@@ -21,11 +21,11 @@ pub loop-i-init : goal.loop-i-init
 unfolding DigitRows swap_rows zeros table
 loop-i-init c =
     let d = c.loop-j.invariant.3 in
-    let f = c.pivot_place-f.result in
+    let f = c.in-Some.f in
     let n = c.loop-j.n in
     let r = c.loop-j.r in
     let t = c.loop-j.invariant.4 in
-    let e = c.pivot_place-f.ensures ∙ column_nonzero r c.loop-j.j n (omega (arith, c.loop-j.invariant)) t in
+    let e = c.in-Some.ensures.0 ∙ column_nonzero r c.loop-j.j n (omega (arith, c.loop-j.invariant)) t in
     (refl, swap_settles r f n d, d f, refl, taken_swap r f n (omega (arith, e, pivot_after r c.loop-j.j n)) t, omega arith)
 
 pub multiple-requires : goal.multiple-requires
@@ -47,7 +47,7 @@ loop-i-preserved c =
     let n = c.loop-i.n in
     let i = c.loop-i.i in
     let k = c.loop-j.j in
-    let p = get_or c.loop-j.n c.pivot_place-f.result [] in
+    let p = get_or c.loop-j.n c.in-Some.f [] in
     let y = get_or n i [] in
     let e = c.row_less.ensures in
     let d = c.multiple.ensures.0 ∙ ap (λ a. get_or y k 0 * a) v.3 in (
@@ -60,29 +60,29 @@ loop-i-preserved c =
       omega (arith, v.5),
     )
 
-pub loop-j-preserved-then-f-lt6 : goal.loop-j-preserved-then-f-lt6
+pub loop-j-preserved : goal.loop-j-preserved
 unfolding swap_rows zeros table
-loop-j-preserved-then-f-lt6 c =
+loop-j-preserved c =
     let v = c.loop-i.invariant in
     let n = c.loop-j.n in
     let r = c.loop-j.r in
     let j = c.loop-j.j in
-    let f = c.pivot_place-f.result in
-    let e = c.pivot_place-f.ensures ∙ column_nonzero r j n (omega (arith, c.loop-j.invariant)) c.loop-j.invariant.4 in
+    let f = c.in-Some.f in
+    let e = c.in-Some.ensures.0 ∙ column_nonzero r j n (omega (arith, c.loop-j.invariant)) c.loop-j.invariant.4 in
     let q =
     sym (clear_step_on r f j n ∙ v.0 ∙ clear_end c.loop-i.i j (get_or n f []) c.loop-i.n c.loop-i-test.false) ∙ ap (λ f. clear_step r f j n) e in
     let t = pivot_log_chosen j r n c.loop-j-test.true
-    (omega (arith, e, c.if-f-lt6.true)) in
+    (omega (arith, e, c.in-Some.ensures.1)) in
     (search rules, search rules, omega (arith, c.loop-j.invariant, ap length t, ap (λ y. length (pivot_log_on (j + 1) (r + 1) y)) q), v.1, v.4)
 
-pub loop-j-preserved : goal.loop-j-preserved
+pub loop-j-preserved-in_default : goal.loop-j-preserved-in_default
 unfolding table
-loop-j-preserved c =
+loop-j-preserved-in_default c =
     let n = c.loop-j.n in
     let r = c.loop-j.r in
     let j = c.loop-j.j in
-    let e = c.pivot_place-f.ensures ∙ column_nonzero r j n (omega (arith, c.loop-j.invariant)) c.loop-j.invariant.4 in
-    let t = pivot_log_passed j r n c.loop-j-test.true (omega (arith, e, c.if-f-lt6.false)) in
+    let e = sym (column_nonzero r j n (omega (arith, c.loop-j.invariant)) c.loop-j.invariant.4) ∙ c.in_default.ensures in
+    let t = pivot_log_passed j r n c.loop-j-test.true (omega (arith, e)) in
     (search rules, search rules, omega (arith, c.loop-j.invariant, ap length t), c.loop-j.invariant.3, c.loop-j.invariant.4)
 
 pub returns : goal.returns

@@ -1,9 +1,9 @@
--- `streams::output::print` never says that more was taken than there is, and ends: each turn leaves fewer bytes.
-use Rattle.std.proofs.Common.{length, ◌-◌, ◌≤◌}
+-- `streams::output::print` never says that more was taken than there is, and ends: what is left is the text's end, shorter at each turn.
+use Rattle.std.proofs.Common.{◌≡◌, length, drop, ◌-◌, ◌≤◌}
 use Rattle.streams.proofs.output.print.Given as goal
 
-abbrev pub invariant-loop-at : goal.invariant-loop-at
-invariant-loop-at g l = l.at ≤ length l.text
+abbrev pub invariant-loop-taken : goal.invariant-loop-taken
+invariant-loop-taken g l = (length l.left ≤ length l.text) × (l.left ≡ drop (length l.text - length l.left) l.text)
 
-abbrev pub decreases-loop-at : goal.decreases-loop-at
-decreases-loop-at g l = length l.text - l.at
+abbrev pub decreases-loop-taken : goal.decreases-loop-taken
+decreases-loop-taken g l = length l.left

@@ -1,71 +1,67 @@
 -- `tune_text::tunes::fill` meets its contract. The loop: of each list, what was written and what the lines that are left add is the whole.
-use mathlib.Core.Path.{ap}
-use native.Mathlib.Omega.{arith}
-use lib.ListN.{drop}
-use Rattle.text.proofs.WritingLaws.{wrote_length, partway_start, partway_room, partway_next, partway_end}
-use Rattle.tune_text.specs.Reading.{lines_said, gathered, number_in, strike_in, count_in, numbers_of, strikes_of, counts_of}
-use Rattle.tune_text.proofs.LineLaws.{said_end}
-use Rattle.tune_text.proofs.SizeLaws.{numbers_within, counts_within, strikes_within}
+use Rattle.std.proofs.Common.{◌≡◌, [], ◌∷◌, refl, ap, ◌∙◌, arith}
+use Rattle.text.proofs.WritingLaws.{part_start, part_room, part_next, part_end}
+use Rattle.tune_text.specs.Reading.{lines_said, gathered, numbers_of, strikes_of, counts_of}
+use Rattle.tune_text.proofs.LineLaws.{neither_said}
 use Rattle.tune_text.proofs.tunes.fill.Goals as goal
 
-pub loop-at-init : goal.loop-at-init
-loop-at-init c = (partway_start _ 0 _ (omega arith), partway_start _ 0 _ (omega arith), partway_start _ 0 _ (omega arith))
+pub loop-line-init : goal.loop-line-init
+loop-line-init c = (part_start _ _ (omega arith), part_start _ _ (omega arith), part_start _ _ (omega arith))
 
-pub line_here-here-requires : goal.line_here-here-requires
-line_here-here-requires c = omega arith
-
-pub put_number-tunes-requires : goal.put_number-tunes-requires
+pub push-requires : goal.push-requires
 unfolding gathered
-put_number-tunes-requires c =
-    let h = c.line_here-here.result in
-    let rest = numbers_of (lines_said (drop h.next c.args.text.now)) in
-    partway_room c.loop-at.invariant.0 (number_in h.said) rest (ap numbers_of c.line_here-here.ensures.lines)
-    (omega (arith, numbers_within c.args.text.now, c.requires.numbers_room))
+push-requires c =
+    let e = ap numbers_of (rw c.in-Tune.is at c.in-Some.ensures.steps) in
+    part_room c.loop-line.invariant.0 (c.in-Tune.number ∷ []) _ e c.requires.numbers_room
 
-pub put_count-counted-requires : goal.put_count-counted-requires
+pub push-requires-in-Tune : goal.push-requires-in-Tune
 unfolding counts_of
-put_count-counted-requires c =
-    let h = c.line_here-here.result in
-    let ls = lines_said (drop h.next c.args.text.now) in
-    let e = ap counts_of c.line_here-here.ensures.lines in record {
-      text_fits = c.requires.text_fits;
-      room = partway_room c.loop-at.invariant.1 (count_in h.said ls) (counts_of ls) e (omega (arith, counts_within c.args.text.now, c.requires.counts_room));
-    }
+push-requires-in-Tune c =
+    let e = rw (← c.cards_ahead.ensures) at (ap counts_of (rw c.in-Tune.is at c.in-Some.ensures.steps)) in
+    part_room c.loop-line.invariant.1 (c.cards_ahead.result ∷ []) _ e c.requires.counts_room
 
-pub put_strike-used-requires : goal.put_strike-used-requires
+pub extend_from_slice-requires : goal.extend_from_slice-requires
 unfolding gathered
-put_strike-used-requires c =
-    let h = c.line_here-here.result in
-    let rest = strikes_of (lines_said (drop h.next c.args.text.now)) in
-    partway_room c.loop-at.invariant.2 (strike_in h.said) rest (ap strikes_of c.line_here-here.ensures.lines)
-    (omega (arith, strikes_within c.args.text.now, c.requires.strikes_room))
+extend_from_slice-requires c =
+    let s = c.in-Strike.strike in
+    let e = ap strikes_of (rw c.in-Strike.is at c.in-Some.ensures.steps) in
+    part_room c.loop-line.invariant.2 (s.bell ∷ s.force ∷ s.delay ∷ []) _ e c.requires.strikes_room
 
-pub loop-at-smaller : goal.loop-at-smaller
-loop-at-smaller c =
-    omega (arith, c.line_here-here.ensures.after, c.loop-at-test.true)
-
-pub loop-at-preserved : goal.loop-at-preserved
+pub loop-line-preserved-in-Tune : goal.loop-line-preserved-in-Tune
 unfolding gathered counts_of
-loop-at-preserved c =
-    let e = c.line_here-here.ensures.lines in
-    let f = c.loop-at.invariant in (
-      partway_next f.0 _ _ (ap numbers_of e) c.put_number-tunes.ensures,
-      partway_next f.1 _ _ (ap counts_of e) c.put_count-counted.ensures,
-      partway_next f.2 _ _ (ap strikes_of e) c.put_strike-used.ensures,
+loop-line-preserved-in-Tune c =
+    let s = rw c.in-Tune.is at c.in-Some.ensures.steps in
+    let p = c.loop-line.invariant in (
+      part_next p.0 _ _ (ap numbers_of s) c.push.ensures,
+      part_next p.1 _ _ (rw (← c.cards_ahead.ensures) at (ap counts_of s)) c.push-in-Tune.ensures,
+      rw (ap strikes_of s) at p.2,
     )
 
-pub shape_of-numbers : goal.shape_of-numbers
-shape_of-numbers c = wrote_length c.loop-at.invariant.0.wrote
+pub loop-line-preserved-in-Strike : goal.loop-line-preserved-in-Strike
+unfolding gathered counts_of
+loop-line-preserved-in-Strike c =
+    let s = rw c.in-Strike.is at c.in-Some.ensures.steps in
+    let p = c.loop-line.invariant in (
+      rw (ap numbers_of s) at p.0,
+      rw (ap counts_of s) at p.1,
+      part_next p.2 _ _ (ap strikes_of s) c.extend_from_slice.ensures,
+    )
 
-pub shape_of-counts : goal.shape_of-counts
-shape_of-counts c = wrote_length c.loop-at.invariant.1.wrote
-
-pub shape_of-strikes : goal.shape_of-strikes
-shape_of-strikes c = wrote_length c.loop-at.invariant.2.wrote
+pub loop-line-preserved : goal.loop-line-preserved
+unfolding gathered counts_of
+loop-line-preserved c =
+    let s = c.in-Some.ensures.steps in
+    let p = c.loop-line.invariant in
+    let ls = lines_said c.next.new.self.text.now in
+    let h = c.in-Nothing.is in (
+      rw (ap numbers_of s ∙ neither_said (λ l. numbers_of (l ∷ ls) ≡ numbers_of ls) h refl (λ f. refl)) at p.0,
+      rw (ap counts_of s ∙ neither_said (λ l. counts_of (l ∷ ls) ≡ counts_of ls) h refl (λ f. refl)) at p.1,
+      rw (ap strikes_of s ∙ neither_said (λ l. strikes_of (l ∷ ls) ≡ strikes_of ls) h refl (λ f. refl)) at p.2,
+    )
 
 pub returns : goal.returns
 unfolding gathered counts_of
 returns c =
-    let e = said_end c.args.text.now c.loop-at.at (omega arith) in
-    let f = c.loop-at.invariant in
-    record { numbers_wrote = partway_end f.0 (ap numbers_of e); counts_after = (partway_end f.1 (ap counts_of e)).text; strikes_wrote = partway_end f.2 (ap strikes_of e) }
+    let s = c.in_default.ensures.steps.0 in
+    let p = c.loop-line.invariant in
+    record { numbers_wrote = part_end p.0 (ap numbers_of s); counts_wrote = part_end p.1 (ap counts_of s); strikes_wrote = part_end p.2 (ap strikes_of s) }

@@ -1,25 +1,14 @@
--- `tune_text::words::trimmed` meets its contract. The loop: the blanks passed are none of what is left.
-use mathlib.Core.Path.{refl, sym, ◌∙◌}
-use native.Mathlib.Omega.{arith}
-use Rattle.tune_text.specs.Flags.{was_false, was_true}
-use Rattle.tune_text.proofs.PieceLaws.{part_rest, trimmed_here, trimmed_next, trimmed_none}
-use mathlib.Core.Path.{ap}
-use mathlib.Core.Bool.{not}
+-- `tune_text::words::trimmed` meets its contract: a search for the first byte that is no blank.
+use Rattle.std.proofs.Common.{sym, ◌∙◌, not, drop, ap, rules, tests}
+use Rattle.std.proofs.lemmas.Iterator.{YieldsList-from_slice}
+use Rattle.std.proofs.lemmas.Iterator.Search.{position_from_yields_List}
+use Rattle.tune_text.specs.Words.{blank}
+use Rattle.tune_text.proofs.PieceLaws.{ends_found, part_rest, trimmed_from}
 use Rattle.tune_text.proofs.words.trimmed.Goals as goal
-
-pub loop-i-init : goal.loop-i-init
-loop-i-init c = (omega arith, refl)
-
-pub returns-then-not-is_blank : goal.returns-then-not-is_blank
-returns-then-not-is_blank c =
-    let e = trimmed_here c.args.line.now c.loop-i.i c.loop-i-test.true (was_false c.is_blank.ensures (ap not c.if-not-is_blank.true)) in
-    part_rest c.args.line.now c.loop-i.i ∙ sym (c.loop-i.invariant.1 ∙ e)
-
-pub loop-i-preserved : goal.loop-i-preserved
-loop-i-preserved c =
-    (omega arith, c.loop-i.invariant.1 ∙ trimmed_next _ _ c.loop-i-test.true (was_true c.is_blank.ensures (ap not c.if-not-is_blank.false)))
 
 pub returns : goal.returns
 returns c =
-    let e = trimmed_none c.args.line.now c.loop-i.i c.loop-i-test.false in
-    part_rest c.args.line.now c.loop-i.i ∙ sym (c.loop-i.invariant.1 ∙ e)
+    let l = c.args.line.now in
+    let found = position_from_yields_List (λ b. not (blank b)) _ _ c.position.result c.position.ensures.ran (YieldsList-from_slice l cc) (λ x b q k. search (rules, tests)) in
+    let start = c.unwrap_or-start.ensures ∙ ends_found (λ b. not (blank b)) l _ found in
+    part_rest l c.unwrap_or-start.result ∙ ap (λ n. drop n l) start ∙ sym (trimmed_from l)

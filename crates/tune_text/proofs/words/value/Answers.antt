@@ -1,23 +1,11 @@
--- `tune_text::words::value` meets its contract. The loop: the value so far, with the digits that are left, is the value.
-use mathlib.Core.Path.{refl, sym, ◌∙◌}
-use native.Mathlib.Omega.{arith}
-use Rattle.tune_text.specs.Words.{value}
-use Rattle.tune_text.specs.Numbers.{value_next, value_end}
+-- `tune_text::words::value` meets its contract: the value so far is cut to the most before the next digit.
+use Rattle.std.proofs.Common.{◌∙◌, rules, tests}
+use Rattle.std.proofs.lemmas.Iterator.{YieldsList-from_slice}
+use Rattle.std.proofs.lemmas.Iterator.Consumers.{fold_from_yields_List}
+use Rattle.tune_text.proofs.NumberLaws.{next_value, value_cut}
 use Rattle.tune_text.proofs.words.value.Goals as goal
-
-pub loop-i-init : goal.loop-i-init
-unfolding value
-loop-i-init c = (omega arith, refl)
-
-pub overflow_add-v : goal.overflow_add-v
-overflow_add-v c =
-    omega (arith, c.type_inv.word c.loop-i.i)
-
-pub loop-i-preserved : goal.loop-i-preserved
-loop-i-preserved c =
-    let e = value_next c.args.word.now c.loop-i.i c.loop-i.v c.loop-i-test.true in
-    (omega arith, c.loop-i.invariant.1 ∙ rw (c.capped-v.ensures, c.worth.ensures) e)
 
 pub returns : goal.returns
 returns c =
-    sym (c.loop-i.invariant.1 ∙ value_end c.args.word.now c.loop-i.i c.loop-i.v (omega arith) (omega arith))
+    let l = c.args.digits.now in
+    fold_from_yields_List _ next_value 0 c.fold.result c.fold.ensures.ran (YieldsList-from_slice l cc) (λ a x b q k. search (rules, tests)) ∙ value_cut l

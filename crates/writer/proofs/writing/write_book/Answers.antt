@@ -1,43 +1,42 @@
 -- `writer::writing::write_book` meets its contract: a refusal leaves the book as it was; else the contents and the cards fill it.
-use mathlib.Core.Path.{◌≡◌}
-use mathlib.Core.List.{◌++◌}
-use native.Mathlib.Omega.{arith}
-use lib.ListN.{length, length-append}
+use Rattle.std.proofs.Common.{arith, ◌∙◌, ◌++◌, length-append, rules}
+use Rattle.std.proofs.lemmas.Result.{err_from_is_err_and}
 use Rattle.strike.specs.Turns.{strikes}
-use Rattle.text.proofs.WritingLaws.{wrote_then, room_then}
+use Rattle.text.specs.Writing.{HasRoom}
+use Rattle.text.proofs.WritingLaws.{writes_then, room_after}
 use Rattle.writer.specs.Writing.{contents_bytes, cards_bytes, book_bytes}
-use Rattle.writer.specs.Writable.{Writable}
-use Rattle.writer.proofs.Filled.{written_refused, passed, whole_fits, written_done}
+use Rattle.writer.proofs.Filled.{written_refused, whole_fits, written_done}
 use Rattle.writer.proofs.writing.write_book.Goals as goal
-use Rattle.writer.proofs.writing.write_book.Goals.{In_default}
+use Rattle.writer.proofs.writing.write_book.Goals.{After-new-lent}
 
-pub returns-in-Refused : goal.returns-in-Refused
-returns-in-Refused c =
-    written_refused _ _ _ _ _ c.write_tests-tested.ensures _ c.in-Refused.is
+pub returns-in_err-lists : goal.returns-in_err-lists
+returns-in_err-lists c =
+    let p = err_from_is_err_and c.from_residual.result c.from_residual.ensures.1 in
+    rw (p.1, p.2) (written_refused _ _ _ _ _ c.in_err-lists.ensures.tested)
 
--- what the tests that were passed say of the lists, and of the book's length
-lists_passed : (c : In_default) →
-    Writable c.args.numbers.now c.args.counts.now c.args.strikes.now (length c.args.book.now)
-    × (length c.args.book.now ≡ length (contents_bytes c.args.numbers.now c.args.counts.now ++ cards_bytes (strikes c.args.strikes.now)))
+-- the lent book has room for the contents and the cards
+room : (c : After-new-lent) → HasRoom c.new-lent.result (contents_bytes c.in_ok-lists.lists.numbers.now c.in_ok-lists.lists.counts.now ++ cards_bytes (strikes c.in_ok-lists.lists.strikes.now))
 unfolding book_bytes
-lists_passed c =
-    let bs = c.args.book.now in
-    (passed _ _ _ bs _ c.write_tests-tested.ensures c.in_default.is, whole_fits _ _ _ bs _ c.write_tests-tested.ensures c.in_default.is)
+room c =
+    let l = c.in_ok-lists.ensures.lists in
+    let n = c.new-lent.ensures in
+    let w = whole_fits c.args.numbers.now c.args.counts.now c.args.strikes.now c.args.book.now c.in_ok-lists.ensures.tested in
+    rw (l.0, l.1, l.2, n.as_it_was, n.at_start) (omega arith)
 
-pub write_contents-next-requires : goal.write_contents-next-requires
-write_contents-next-requires c =
-    let (w, f) = lists_passed (goal.at.write_contents-next-requires c).In_default in
-    let l = length-append (contents_bytes c.args.numbers.now c.args.counts.now) (cards_bytes (strikes c.args.strikes.now)) in
-    record { same_length = w.paired; book_fits = w.size; room = omega (arith, f, l) }
+pub write_contents-requires : goal.write_contents-requires
+write_contents-requires c =
+    let r = room (goal.at.write_contents-requires c).After-new-lent in
+    let l = length-append (contents_bytes c.in_ok-lists.lists.numbers.now c.in_ok-lists.lists.counts.now) (cards_bytes (strikes c.in_ok-lists.lists.strikes.now)) in
+    omega arith
 
 pub write_cards-requires : goal.write_cards-requires
-write_cards-requires c =
-    let (p, f) = lists_passed (goal.at.write_cards-requires c).In_default in
-    let ss = c.args.strikes.now in
-    record { strikes_good = p.strikes_in; room = room_then c.write_contents-next.ensures (cards_bytes (strikes ss)) (omega (arith, f)) }
+write_cards-requires c = room_after c.write_contents.ensures _ (room (goal.at.write_cards-requires c).After-new-lent)
 
 pub returns : goal.returns
 unfolding book_bytes
 returns c =
-    written_done _ _ _ _ _ c.write_tests-tested.ensures c.in_default.is
-    (wrote_then c.write_contents-next.ensures c.write_cards.ensures)
+    let l = c.in_ok-lists.ensures.lists in
+    let n = c.new-lent.ensures in
+    let w = rw (l.0, l.1, l.2) at (writes_then c.write_contents.ensures c.write_cards.ensures) in
+    let s = w.same_list ∙ n.same_list in
+    written_done _ _ _ _ c.in_ok-lists.ensures.tested n.as_it_was n.at_start w (search rules)

@@ -1,0 +1,2 @@
+-- Arrays made by a function of the index.
+pub mod Made

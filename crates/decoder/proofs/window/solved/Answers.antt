@@ -1,8 +1,0 @@
--- `decoder::window::solved` meets its contract: three products and two sums.
-use Rattle.algebra.specs.Field.{cube}
-use Rattle.algebra.specs.Products.{times_comm}
-use Rattle.decoder.proofs.window.solved.Goals as goal
-
-pub returns : goal.returns
-returns c =
-    cc (times_comm c.sum-t.result (cube c.args.a.inverse))

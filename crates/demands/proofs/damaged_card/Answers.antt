@@ -1,7 +1,0 @@
--- `demands::damaged_card` meets its contract, by that of `book::damaged_card`.
-use borrow.Author.Rules.{rules}
-use Rattle.demands.proofs.BookDemands.{worn_says}
-use Rattle.demands.proofs.damaged_card.Goals as goal
-
-pub returns : goal.returns
-returns c = search (rules, worn_says)

@@ -1,7 +1,0 @@
--- `demands::decode` meets its contract, by that of `decoder::decode`.
-use borrow.Author.Rules.{rules}
-use Rattle.demands.proofs.CardDemands.{mend_says}
-use Rattle.demands.proofs.decode.Goals as goal
-
-pub returns : goal.returns
-returns c = search (rules, mend_says)

@@ -1,0 +1,10 @@
+-- `field::quotient` meets its contract: the exponents are subtracted, and come round after 728.
+use Rattle.field.specs.Exponents.{zero_divided, quotient_is}
+use Rattle.field.proofs.products.quotient.Goals as goal
+
+pub returns-then-x-eq0 : goal.returns-then-x-eq0
+returns-then-x-eq0 c = zero_divided c.args.a c.args.b c.then-x-eq0.either
+
+pub returns : goal.returns
+returns c =
+    rw (c.power.ensures, c.log.ensures.value, c.log-2.ensures.value) (quotient_is c.args.a c.args.b c.if-x-eq0.false c.if-y-eq0.false)
