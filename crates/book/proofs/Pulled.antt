@@ -57,6 +57,17 @@ entry_there bs a e h =
       before = λ i l b. ne_eqb (tune_number bs i) t (λ q. omega (arith, numbers_rise bs a i e b h));
     })
 
+-- THE PLACE that is answered is that of the entry
+pub entry_placed : (bs : List ℕ) (t : ℕ) → pull_refusal bs t ≡ 0 → entry_of bs t ≡ some (or_zero (entry_of bs t))
+entry_placed bs t r = elim (ℕ_discrete (open_refusal bs) 0) [
+  | yes a ↦ go (entry_of bs t) (sym (pull_accepted bs t a) ∙ r)
+  | no n ↦ absurd (n (sym (pull_refused bs t n) ∙ r))
+]
+  where
+    go : (o : Option ℕ) → missing o ≡ 0 → o ≡ some (or_zero o)
+    go none z = absurd (omega (arith, z))
+    go (some e) z = refl
+
 pub ruleset pulling = (reply_value, reply_refused, pull_accepted, pull_refused)
 
 -- EACH TUNE, AND NOTHING ELSE

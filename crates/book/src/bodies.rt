@@ -28,7 +28,7 @@ pub fn total_delay(body: &[u8]) -> Result<u32, Refusal>
     let body = Body::new(body)?;
     let mut ticks = 0;
     for n in 1..body.count() + 1 {
-        ticks += body.card(n)?.strike.delay;
+        ticks = add_delay(Ok(ticks), body.card(n))?;
     }
     Ok(ticks)
 }

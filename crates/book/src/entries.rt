@@ -7,8 +7,9 @@ ghost use Rattle.book.specs.Pull.{entry_of, pull_refusal};
 ghost use Rattle.book.specs.Accepted.{AcceptedEntry};
 ghost use Rattle.book.specs.Entries.{entry_fields, entry_tune, tune_reply, tune_at};
 
-use crate::contents::{Contents, open};
+use crate::contents::open;
 use crate::fields::Fields;
+use crate::pull::tune_place;
 use crate::reading::Body;
 use refusal::Refusal;
 
@@ -29,17 +30,12 @@ pub struct Entry<'a> {
 
 impl<'a> Entry<'a> {
     // The entry that bears the tune number. As Open; then 8 if no entry has the number.
-    #[tactic(auto, using(crate::proofs::Pulled::pulling))]
     pub fn find(book: &'a [u8], number: u32) -> Result<Entry<'a>, Refusal>
         ensures refusal { outcome result ≡ pull_refusal book.now number }
         ensures found { IfOk result (λ entry. (entry.book.now ≡ book.now) × (entry_of book.now number ≡ some entry.place)) }
     {
-        let count = open(book)? as usize;
-        let contents = Contents { book, count };
-        match contents.find(number) {
-            Some(place) => Ok(Entry { book, place }),
-            None => Err(Refusal::NoSuchTune),
-        }
+        let place = tune_place(book, number)? as usize;
+        Ok(Entry { book, place })
     }
 
     // What the contents says of it.

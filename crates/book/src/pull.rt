@@ -5,16 +5,21 @@ ghost use Rattle.algebra.specs.Search.{or_zero};
 ghost use Rattle.refusal.specs.Replies.{outcome, reply, reply_with};
 ghost use Rattle.book.specs.Pull.{entry_of, pull_refusal, pulled, pulled_from};
 
+use crate::contents::{Contents, open};
 use crate::entries::Entry;
 use refusal::Refusal;
 
 // The place in the contents of the entry that bears the tune number. As Open; then 8 if no entry has the number.
-#[tactic(auto, using(refusal::specs::Replies::refused_reply, refusal::specs::Replies::value_reply))]
+#[tactic(auto, using(crate::proofs::Pulled::pulling))]
 pub fn tune_place(book: &[u8], number: u32) -> Result<u32, Refusal>
     ensures { reply result ≡ reply_with 0 (pull_refusal book.now number) (or_zero (entry_of book.now number)) }
 {
-    let entry = Entry::find(book, number)?;
-    Ok(entry.place as u32)
+    let count = open(book)? as usize;
+    let contents = Contents { book, count };
+    match contents.find(number) {
+        Some(place) => Ok(place as u32),
+        None => Err(Refusal::NoSuchTune),
+    }
 }
 
 // Whether the tune is there (document 01: Pull). As Open; then 8 if no entry has the number.

@@ -2,7 +2,7 @@
 -- leaves every list as it was.
 -- Main: dead_input, dead_tests, dead_refusal, dead_word, DeadDecoded, input_refused, rows_refused, columns_refused, lines_refused, tests_done,
 -- dead_passed, finds_none, finds_lines, some_line, dead_decoded_refused, found_room, dead_decoded_none, dead_decoded_done.
-use Rattle.std.specs.Prelude.{◌≡◌, refl, ◌≢◌, Bool, true, false, ◌||◌, cond, List, ℕ, ◌+◌, ◌*◌, ◌-◌, ◌≤◌, ◌<◌, eqb, length, Result, Ok, Err, Some, None, IfSome}
+use Rattle.std.specs.Prelude.{◌≡◌, refl, ◌≢◌, Bool, true, false, ◌||◌, cond, List, ℕ, ◌+◌, ◌*◌, ◌-◌, ◌≤◌, ◌<◌, eqb, length, Result, Ok, Err, Some, None, IfSome, option_map}
 use Rattle.std.specs.declared.option.Option as found
 use Rattle.std.proofs.Math.Path.{sym, ap}
 use Rattle.std.proofs.Common.{◌∙◌, arith}
@@ -25,7 +25,7 @@ use Rattle.codec.specs.Refusals.{tests_passed}
 use Rattle.candidate.specs.declared.found.Found.{Found}
 use Rattle.candidate.specs.Finding.{found_message, Matches, Consistent, found_fits}
 use Rattle.candidate.specs.Places.{entry_is}
-use Rattle.decoder.specs.Filling.{or_empty, or_undecodable, Filled, tests_refused, filled_word, filled_message, filled_weight}
+use Rattle.decoder.specs.Filling.{or_empty, or_undecodable, filling, Filled, filling_fits, tests_refused, filled_word, filled_message, filled_weight}
 use Rattle.decoder.specs.Decoding.{lengths_bad, decode_tests, decode_passed}
 use Rattle.dead_lines.specs.Struck.{dead_lines, live_rank}
 use Rattle.dead_lines.specs.Blanked.{blanked, struck_rank}
@@ -91,7 +91,7 @@ module _ (k : ℕ) (c : List ℕ) (ρ σ w m : ℕ) where
     input_masks : dead_input k c ρ σ w m ≡ cond (ltb 63 ρ || ltb 63 σ) (number Range) 0
     input_masks = input_is ∙ rw (sym e)
 
-    masks_refused : (ltb 63 ρ || ltb 63 σ) ≡ true → number Range ≡ dead_tests k c ρ σ w m
+    pub masks_refused : (ltb 63 ρ || ltb 63 σ) ≡ true → number Range ≡ dead_tests k c ρ σ w m
     unfolding dead_tests
     masks_refused b = rw (input_masks, b)
 
@@ -193,12 +193,12 @@ module _ (k : ℕ) (c : List ℕ) (ρ σ : ℕ) (w m : List ℕ) (z : dead_tests
   matches = rw (made.0, made.1, made.2, made.3) at finds.1
 
   -- it fits into the room
-  pub found_room : IfSome near (λ f. (length f.word ≡ length w) × (length m ≤ length f.message.numbers))
+  pub found_room : IfSome (option_map filling near) (λ f. (length f.word ≡ length w) × (length m ≤ length f.numbers))
   found_room =
       let (p, q, six, card, hw, hm, hρ, hσ, few) = dead_passed k c ρ σ (length w) (length m) z in
-      found_fits k left near w m matches hw hm
+      filling_fits w m near (found_fits k left near w m matches hw hm)
 
-  module _ (r : Result Weight Refusal) (w-now m-now : List ℕ) (F : Filled near w m r w-now m-now) where
+  module _ (r : Result Weight Refusal) (w-now m-now : List ℕ) (F : Filled (option_map filling near) w m r w-now m-now) where
     long : length m ≡ 2 * k
     long = (dead_passed k c ρ σ (length w) (length m) z).5
 

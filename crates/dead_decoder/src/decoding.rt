@@ -9,7 +9,7 @@ ghost use Rattle.dead_decoder.specs.Operation.{dead_tests, DeadDecoded};
 use crate::card::DeadCard;
 use crate::masks::Mask;
 use candidate::{Card, Found};
-use decoder::{decode_card, decode_tests, fill_found};
+use decoder::{Filling, decode_card, decode_tests, fill_found};
 use refusal::Refusal;
 
 impl DeadCard {
@@ -73,6 +73,7 @@ pub fn decode_dead(
     ensures { DeadDecoded k received.now rows columns word.old message.old result word.new message.new }
 {
     let card = dead_card(k, received, rows, columns, word.len(), message.len())?;
-    let weight = fill_found(card.decode(), word, message)?;
+    let near = card.decode();
+    let weight = fill_found(Filling::of(near), word, message)?;
     Ok(weight.rank)
 }

@@ -1,7 +1,7 @@
 -- What decode answers and leaves in the lists lent to it (document 01: Mend), and how that follows from what was tested and found. A refusal
 -- leaves every list as it was.
 -- Main: lengths_bad, decode_tests, decode_refusal, decoded_word, Decoded, decode_passed, decoded_refused, decoded_filled.
-use Rattle.std.specs.Prelude.{◌≡◌, Bool, true, ◌&&◌, not, List, ℕ, ◌*◌, ◌≤◌, eqb, length, Result, Err}
+use Rattle.std.specs.Prelude.{◌≡◌, Bool, true, ◌&&◌, not, List, ℕ, ◌*◌, ◌≤◌, eqb, length, Result, Err, option_map}
 use Rattle.std.specs.declared.option.Option as found
 use Rattle.std.proofs.Common.{eqb-true}
 use Rattle.algebra.specs.Tests.{any_above, both}
@@ -16,7 +16,7 @@ use Rattle.candidate.specs.declared.found.Found.{Found}
 use Rattle.codec.specs.Operations.{k_bad, tests}
 use Rattle.codec.specs.Refusals.{k_good, tests_passed, both_equal, fits}
 use Rattle.candidate.specs.Finding.{found_message, Consistent}
-use Rattle.decoder.specs.Filling.{or_empty, or_undecodable, Filled, tests_refused, filled_word, filled_message, filled_weight}
+use Rattle.decoder.specs.Filling.{or_empty, or_undecodable, filling, Filled, tests_refused, filled_word, filled_message, filled_weight}
 
 -- a card, or the room for its word or its message, has another length
 unfoldable pub lengths_bad : (k : ℕ) → (card : List ℕ) → (word_room message-room : ℕ) → Bool
@@ -63,7 +63,7 @@ decoded_refused k c w m r x e q =
 
 pub decoded_filled : (k : ℕ) (c w m : List ℕ) → decode_tests k c (length w) (length m) ≡ 0 → length m ≡ 2 * k
     → (near : found.Option Found) → found_message near ≡ decode k c → Consistent k c near
-    → (r : Result Weight Refusal) (w-now m-now : List ℕ) → Filled near w m r w-now m-now → Decoded k c w m r w-now m-now
+    → (r : Result Weight Refusal) (w-now m-now : List ℕ) → Filled (option_map filling near) w m r w-now m-now → Decoded k c w m r w-now m-now
 unfolding decode_refusal decoded_word damage
 decoded_filled k c w m z l near e M r w-now m-now F = record {
   answers = filled_weight k _ _ w m z _ l r w-now m-now near e M F;

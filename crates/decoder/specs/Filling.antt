@@ -1,7 +1,7 @@
 -- What decoding leaves in the two lists lent to it: the word and the message that were found, or what they held. It refuses by a test, or with 4
 -- where it found nothing.
--- Main: undecodable, or_empty, or_undecodable, Filled, tests_refused, filled_weight, filled_word, filled_message.
-use Rattle.std.specs.Prelude.{◌≡◌, ℕ, ◌*◌, eqb, length, take, Result, Err, Some, None, unwrap_or, ok_or, option_map}
+-- Main: undecodable, or_empty, or_undecodable, filling, Filled, filling_fits, tests_refused, filled_weight, filled_word, filled_message.
+use Rattle.std.specs.Prelude.{◌≡◌, ℕ, ◌*◌, eqb, length, take, Result, Err, Some, None, IfSome, unwrap_or, ok_or, option_map, ◌≤◌}
 use Rattle.std.specs.declared.option.Option as found
 use Rattle.std.proofs.Math.Path.{refl, sym, ap}
 use Rattle.std.proofs.Common.{◌∙◌}
@@ -16,6 +16,7 @@ use Rattle.rank.specs.Weight.{weight_of, no_weight, weight_reply}
 use Rattle.coding.specs.Code.{word}
 use Rattle.codec.specs.Messages.{numbers_of}
 use Rattle.candidate.specs.declared.found.Found.{Found}
+use Rattle.decoder.specs.declared.filling.Filling.{Filling}
 use Rattle.candidate.specs.Finding.{found_message, Matches}
 
 -- refusal 4 where no message is near, and the message that is
@@ -31,11 +32,21 @@ or_empty (some m) = m
 unfoldable pub or_undecodable : (tests : ℕ) → Option (List ℕ) → ℕ
 or_undecodable t o = cond (eqb t 0) (undecodable o) t
 
--- WHAT WAS FOUND, in the lists: its word and its message, or what they held. The answer is its weight, or 4.
-pub record Filled (near : found.Option Found) (w m : List ℕ) (r : Result Weight Refusal) (w-now m-now : List ℕ) : Type 0 where
+-- WHAT WAS FOUND, as it is filled in
+abbrev pub filling : Found → Filling
+filling f = record { word = f.word; numbers = f.message.numbers; weight = f.weight }
+
+-- in the lists: its word and its message, or what they held. The answer is its weight, or 4.
+pub record Filled (near : found.Option Filling) (w m : List ℕ) (r : Result Weight Refusal) (w-now m-now : List ℕ) : Type 0 where
   pub answers : r ≡ ok_or (option_map (λ f. f.weight) near) Undecodable
   pub word_is : w-now ≡ unwrap_or (option_map (λ f. f.word) near) w
-  pub message_is : m-now ≡ unwrap_or (option_map (λ f. take (length m) f.message.numbers) near) m
+  pub message_is : m-now ≡ unwrap_or (option_map (λ f. take (length m) f.numbers) near) m
+
+-- it fits where the word and the message do
+pub filling_fits : (w m : List ℕ) (near : found.Option Found) → IfSome near (λ f. (length f.word ≡ length w) × (length m ≤ length f.message.numbers))
+    → IfSome (option_map filling near) (λ f. (length f.word ≡ length w) × (length m ≤ length f.numbers))
+filling_fits w m None h = tt
+filling_fits w m (Some f) h = h
 
 -- THE ANSWER for a message o, with the number t of the tests
 module _ (k t : ℕ) (o : Option (List ℕ)) (w m : List ℕ) where
@@ -52,20 +63,20 @@ module _ (k t : ℕ) (o : Option (List ℕ)) (w m : List ℕ) where
 
   -- the tests passed, and what was found filled in
   module _ (z : t ≡ 0) (left : List ℕ → List ℕ) (l : length m ≡ 2 * k) (r : Result Weight Refusal) (w-now m-now : List ℕ) where
-    pub filled_weight : (near : found.Option Found) → found_message near ≡ o → Matches k left near → Filled near w m r w-now m-now
+    pub filled_weight : (near : found.Option Found) → found_message near ≡ o → Matches k left near → Filled (option_map filling near) w m r w-now m-now
         → weight_reply r ≡ reply_with no_weight n (weight_of (left (word k (or_empty o))))
     unfolding or_undecodable undecodable or_empty found_message
     filled_weight None e M F = rw (z, ← e, F.answers) (refused_reply _ _ _ Undecodable refl)
     filled_weight (Some f) e (q, v) F =
         rw (z, ← e, F.answers) (value_reply _ _ _ refl ∙ ap (reply_with no_weight 0) (v ∙ ap (λ (x : List ℕ). weight_of (left x)) (f.word_is ∙ ap (λ (i : ℕ). word i (numbers_of f.message)) q)))
 
-    pub filled_word : (near : found.Option Found) → found_message near ≡ o → Matches k left near → Filled near w m r w-now m-now
+    pub filled_word : (near : found.Option Found) → found_message near ≡ o → Matches k left near → Filled (option_map filling near) w m r w-now m-now
         → w-now ≡ unless n (word k (or_empty o)) w
     unfolding or_undecodable undecodable or_empty found_message unless
     filled_word None e M F = rw (z, ← e) F.word_is
     filled_word (Some f) e (q, v) F = rw (z, ← e) (F.word_is ∙ f.word_is ∙ ap (λ (i : ℕ). word i (numbers_of f.message)) q)
 
-    pub filled_message : (near : found.Option Found) → found_message near ≡ o → Matches k left near → Filled near w m r w-now m-now
+    pub filled_message : (near : found.Option Found) → found_message near ≡ o → Matches k left near → Filled (option_map filling near) w m r w-now m-now
         → m-now ≡ unless n (or_empty o) m
     unfolding or_undecodable undecodable or_empty found_message unless
     filled_message None e M F = rw (z, ← e) F.message_is

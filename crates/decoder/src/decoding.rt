@@ -1,13 +1,13 @@
 // Decoding (document 01: Mend): a card without damage first, else by its k.
-ghost use Rattle.std.specs.Prelude.{◌≡◌, true, false, ◌≤◌, length, IfOk, IfSome};
+ghost use Rattle.std.specs.Prelude.{◌≡◌, true, false, ◌≤◌, length, IfOk};
 ghost use Rattle.rank.specs.Definitions.{at, is_card};
 ghost use Rattle.coding.specs.Clean.{shaped};
 ghost use Rattle.coding.specs.Decode.{decode};
 ghost use Rattle.refusal.specs.Replies.{outcome};
 ghost use Rattle.candidate.specs.Finding.{found_message, Consistent};
 ghost use Rattle.decoder.specs.Decoding.{decode_tests, Decoded};
-ghost use Rattle.decoder.specs.Filling.{Filled};
 
+use crate::filling::{Filling, fill_found};
 use crate::one::{decode_one, two_numbers};
 use crate::single::{decode_four, find_single};
 use crate::two::decode_two;
@@ -56,21 +56,6 @@ pub fn decode_tests(k: u32, card: &[u16], word: usize, message: usize) -> Result
     codec::test_input(k, fit, card, 728)
 }
 
-// Fills a word and a message with what was found, and answers its weight; or refuses.
-pub fn fill_found(
-    near: Option<Found>,
-    word: &mut [u16],
-    message: &mut [u16],
-) -> Result<Weight, Refusal>
-    requires { IfSome near (λ f. (length f.word ≡ length word.old) × (length message.old ≤ length f.message.numbers)) }
-    ensures { Filled near word.old message.old result word.new message.new }
-{
-    let found = near.ok_or(Refusal::Undecodable)?;
-    lists::fill(word, &found.word);
-    lists::fill(message, &found.message.numbers);
-    Ok(found.weight)
-}
-
 // Fills the word near a card and its message, and answers the weight of the difference between word and card (document 01: Mend).
 pub fn decode(
     k: u32,
@@ -81,5 +66,6 @@ pub fn decode(
     ensures { Decoded k received.now word.old message.old result word.new message.new }
 {
     let k = decode_tests(k, received, word.len(), message.len())?;
-    fill_found(decode_card(k, Card::of_list(received)), word, message)
+    let near = decode_card(k, Card::of_list(received));
+    fill_found(Filling::of(near), word, message)
 }

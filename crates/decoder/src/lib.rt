@@ -3,12 +3,14 @@
 #![tactic(auto)]
 
 mod decoding;
+mod filling;
 mod one;
 mod single;
 mod two;
 mod window;
 
-pub use decoding::{decode, decode_card, decode_tests, fill_found};
+pub use decoding::{decode, decode_card, decode_tests};
+pub use filling::{Filling, fill_found};
 pub use one::solved_pair;
 pub use single::residual;
 pub use two::Affine;

@@ -8,6 +8,6 @@ mod sums;
 mod tables;
 
 pub use cubes::cube;
-pub use products::{cube_product, inverse, log, power, product, quotient};
+pub use products::{cube_product, inverse, log, logs, power, powers, product, quotient};
 pub use small::{high, low, small_symbol};
 pub use sums::{combination, difference, sum};

@@ -7,13 +7,15 @@ ghost use Rattle.algebra.specs.Inverses.{inverse};
 
 use super::tables::{LOGS, POWERS};
 
-fn powers() -> &'static [u16; 728]
+// The powers of z, from exponent 0 to 727.
+pub fn powers() -> &'static [u16; 728]
     ensures { result.now ≡ powers }
 {
     &POWERS
 }
 
-fn logs() -> &'static [u16; 729]
+// The exponents of the symbols, by which each but 0 is a power.
+pub fn logs() -> &'static [u16; 729]
     ensures { result.now ≡ table 729 log }
 {
     &LOGS

@@ -1,8 +1,16 @@
 // The output of a program. No contract can say which bytes of a text arrive: the standard library promises of a write how many it took at most.
-ghost use Rattle.std.specs.Prelude.{◌<◌, ◌≤◌, length, IfSome};
+ghost use Rattle.std.specs.Prelude.{◌≡◌, ◌<◌, ◌≤◌, length, drop, IfSome};
 
 use crate::failure::said;
 use std::io;
+
+// What is left of a text from a place on.
+fn remaining(text: &[u8], at: usize) -> &[u8]
+    requires { at ≤ length text.now }
+    ensures { result.now ≡ drop at text.now }
+{
+    &text[at..]
+}
 
 // One write: how many of the bytes it took, at least one. If it took none it failed, and it is said why.
 fn write_some(rt: &(impl Print + Eprint), text: &[u8]) -> Option<usize>
@@ -26,7 +34,7 @@ pub fn print(rt: &(impl Print + Eprint), text: &[u8]) -> usize
         let Some(taken) = write_some(rt, left) else {
             break;
         };
-        left = &left[taken..];
+        left = remaining(left, taken);
     }
     text.len() - left.len()
 }

@@ -1,13 +1,13 @@
 -- The spectrum of a card and the word of a message as linear functions, by packed digits: of the six symbols of a card, and of the small numbers of
 -- a message in ten places, of which a message for k fills the first 2k.
 -- Main: spectrum_map, spectrum_mapped, low_at, high_at, message_numbers, word_map, word_mapped, SmallNumbers, message_small,
--- low_tables, high_tables, first_added, both_added, last_added.
+-- high_small, ten_added, low_tables, high_tables, first_added, both_added, last_added.
 use Rattle.std.specs.Prelude.{◌≡◌, Bool, List, [], ◌∷◌, ℕ, zero, suc, ◌+◌, ◌*◌, ◌-◌, ◌/◌, ◌%◌, ◌≤◌, ◌<◌, get_or, take}
 use Rattle.std.proofs.Math.Path.{refl, fun_ext}
-use Rattle.std.proofs.Common.{sym, ap, ◌∙◌, arith, get_or-take}
+use Rattle.std.proofs.Common.{sym, ap, ◌∙◌, arith, lit≤, get_or-take}
 use Rattle.std.proofs.Math.Bool.{true, false, cond}
 use Rattle.std.proofs.Math.Dec.{ltb, eqb, lit<}
-use borrow.Author.Tests.{lt-ltb, le-ltb, eq-eqb, ne_eqb}
+use borrow.Author.Tests.{ltb-true, lt-ltb, le-ltb, eqb-true, eq-eqb, ne_eqb}
 use Rattle.algebra.specs.Field.{digits, add, times, power, risen, small, gamma}
 use Rattle.algebra.specs.Lists.{table, table_same, all_at}
 use Rattle.algebra.specs.Tests.{passed, one_to_five}
@@ -164,6 +164,58 @@ low_table = one_to_five _ (λ h. refl) (λ h. refl) (λ h. refl) (λ h. refl) (�
 
 high_table : (s : ℕ) → 1 ≤ s → s ≤ 5 → get_or high_tables (s - 1) [] ≡ part_rows (2 * s - 1)
 high_table = one_to_five _ refl refl refl refl refl
+
+-- the numbers of the coefficients are small too: what is not there is 0
+module _ (k : ℕ) (m : List ℕ) (u : SmallNumbers k m) where
+  low_small : (s : ℕ) → 1 ≤ s → low_at s k m < 27
+  unfolding low_at
+  low_small s h = go (ltb s k) refl
+    where
+      go : (b : Bool) → ltb s k ≡ b → cond b (get_or m (2 * s - 1) 0) 0 < 27
+      go true e = u (2 * s - 1) (omega (arith, ltb-true s k e))
+      go false e = lit< tt
+
+  pub high_small : (s : ℕ) → 1 ≤ s → high_at s k m < 27
+  unfolding high_at
+  high_small s h = go (ltb s k) refl (eqb s k) refl
+    where
+      go : (b : Bool) → ltb s k ≡ b → (t : Bool) → eqb s k ≡ t → cond b (get_or m (2 * s) 0) (cond t (get_or m (2 * s - 1) 0) 0) < 27
+      go true e t f = u (2 * s) (omega (arith, ltb-true s k e))
+      go false e true f = u (2 * s - 1) (omega (arith, eqb-true s k f))
+      go false e false f = lit< tt
+
+  -- ten of them, one after another
+  pub ten_added : 1 ≤ k → {a b c d e f g h i j : List ℕ}
+      → a ≡ add_small_rows no_counts (get_or m 0 0) (part_rows 0) → b ≡ add_small_rows a (high_at 1 k m) (part_rows 1)
+      → c ≡ add_small_rows b (low_at 1 k m) (part_rows 2) → d ≡ add_small_rows c (high_at 2 k m) (part_rows 3)
+      → e ≡ add_small_rows d (low_at 2 k m) (part_rows 4) → f ≡ add_small_rows e (high_at 3 k m) (part_rows 5)
+      → g ≡ add_small_rows f (low_at 3 k m) (part_rows 6) → h ≡ add_small_rows g (high_at 4 k m) (part_rows 7)
+      → i ≡ add_small_rows h (low_at 4 k m) (part_rows 8) → j ≡ add_small_rows i (high_at 5 k m) (part_rows 9)
+      → j ≡ counts word_map (message_numbers k m) 10
+  unfolding counts counts_from message_numbers
+  ten_added p ea eb ec ed ee ef eg eh ei ej =
+      rw (
+        ej,
+        small_step 9 _ _ (high_small 5 (lit≤ tt)),
+        ei,
+        small_step 8 _ _ (low_small 4 (lit≤ tt)),
+        eh,
+        small_step 7 _ _ (high_small 4 (lit≤ tt)),
+        eg,
+        small_step 6 _ _ (low_small 3 (lit≤ tt)),
+        ef,
+        small_step 5 _ _ (high_small 3 (lit≤ tt)),
+        ee,
+        small_step 4 _ _ (low_small 2 (lit≤ tt)),
+        ed,
+        small_step 3 _ _ (high_small 2 (lit≤ tt)),
+        ec,
+        small_step 2 _ _ (low_small 1 (lit≤ tt)),
+        eb,
+        small_step 1 _ _ (high_small 1 (lit≤ tt)),
+        ea,
+        small_step 0 _ _ (u 0 (omega arith)),
+      )
 
 -- THE NUMBERS ONE AFTER ANOTHER, up to number n of the ten
 module _ (k : ℕ) (m : List ℕ) where

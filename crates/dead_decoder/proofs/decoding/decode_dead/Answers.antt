@@ -18,17 +18,18 @@ untouched d = no_refusal _ _ d.dead_card.ensures.tested d.in_ok-card.was
 
 pub fill_found-requires : goal.fill_found-requires
 fill_found-requires c =
-    found_room c.args.k c.args.received.now c.args.rows c.args.columns c.args.word.now c.args.message.now (untouched (goal.at.fill_found-requires c).In_ok-card)
-    c.in_ok-card.card c.in_ok-card.ensures.made _ c.decode.ensures
+    rw c.of.ensures
+    (found_room c.args.k c.args.received.now c.args.rows c.args.columns c.args.word.now c.args.message.now (untouched (goal.at.fill_found-requires c).In_ok-card)
+    c.in_ok-card.card c.in_ok-card.ensures.made _ c.decode-near.ensures)
 
 pub returns-in_err-weight : goal.returns-in_err-weight
 returns-in_err-weight c =
     let p = err_from_is_err_and c.from_residual-in_err-weight.result c.from_residual-in_err-weight.ensures.1 in
     rw (p.1, p.2)
     (dead_decoded_none c.args.k c.args.received.now c.args.rows c.args.columns c.args.word.now c.args.message.now (untouched (goal.at.returns-in_err-weight c).In_ok-card)
-    c.in_ok-card.card c.in_ok-card.ensures.made _ c.decode.ensures _ _ _ c.fill_found.ensures _ c.in_err-weight.was)
+    c.in_ok-card.card c.in_ok-card.ensures.made _ c.decode-near.ensures _ _ _ (rw c.of.ensures at c.fill_found.ensures) _ c.in_err-weight.was)
 
 pub returns : goal.returns
 returns c =
     dead_decoded_done c.args.k c.args.received.now c.args.rows c.args.columns c.args.word.now c.args.message.now (untouched (goal.at.returns c).In_ok-card)
-    c.in_ok-card.card c.in_ok-card.ensures.made _ c.decode.ensures _ _ _ c.fill_found.ensures _ c.in_ok-weight.was
+    c.in_ok-card.card c.in_ok-card.ensures.made _ c.decode-near.ensures _ _ _ (rw c.of.ensures at c.fill_found.ensures) _ c.in_ok-weight.was

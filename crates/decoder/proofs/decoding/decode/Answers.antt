@@ -4,6 +4,7 @@ use Rattle.std.proofs.lemmas.Result.{err_from_is_err_and}
 use Rattle.rank.specs.Definitions.{is_card}
 use Rattle.refusal.specs.Replies.{no_refusal}
 use Rattle.candidate.specs.Finding.{found_fits}
+use Rattle.decoder.specs.Filling.{filling_fits}
 use Rattle.decoder.specs.Decoding.{decode_tests, decode_passed, decoded_refused, decoded_filled}
 use Rattle.decoder.proofs.decoding.decode.Goals as goal
 use Rattle.decoder.proofs.decoding.decode.Goals.{In_ok-k}
@@ -28,10 +29,10 @@ of_list-requires c = let (p, q, six, card, w, m) = passed (goal.at.of_list-requi
 pub fill_found-requires : goal.fill_found-requires
 fill_found-requires c =
     let (p, q, six, card, w, m) = passed (goal.at.fill_found-requires c).In_ok-k in
-    found_fits c.args.k _ c.decode_card.result _ _ (rw c.in_ok-k.ensures.dimension at c.decode_card.ensures.1) w m
+    rw c.of.ensures (filling_fits _ _ _ (found_fits c.args.k _ c.decode_card-near.result _ _ (rw c.in_ok-k.ensures.dimension at c.decode_card-near.ensures.1) w m))
 
 pub returns : goal.returns
 returns c =
     let d = (goal.at.returns c).In_ok-k in
-    let (e, matches) = rw (c.of_list.ensures, c.in_ok-k.ensures.dimension) at c.decode_card.ensures in
-    decoded_filled c.args.k c.args.received.now c.args.word.now c.args.message.now (untouched d) (passed d).5 _ e matches _ _ _ c.fill_found.ensures
+    let (e, matches) = rw (c.of_list.ensures, c.in_ok-k.ensures.dimension) at c.decode_card-near.ensures in
+    decoded_filled c.args.k c.args.received.now c.args.word.now c.args.message.now (untouched d) (passed d).5 _ e matches _ _ _ (rw c.of.ensures at c.fill_found.ensures)
